@@ -1,0 +1,89 @@
+-- The round on lanes, and n rounds, have exactly the bits of FIPS 202's, over l (lanes of w = 2 ^ l bits). Assumes nothing.
+use mathlib.Core.Path.{_≡_, refl, sym, ap, _∙_}
+use mathlib.Core.List.{List}
+use Prim.Native.Nat.{ℕ, zero, suc, _+_, _^_, _<_}
+use native.Mathlib.Nat.{add-zero}
+use native.Mathlib.Omega.{arith}
+use lib.ListN.{length}
+use Rattle.fips202.specs.Keccak.{Array, theta, rho, pi, chi, iota, rnd, rounds}
+use Rattle.fips202.specs.Lanes.{Fits, bitsOf, thetaL, rhoL, piL, chiL, iotaL, roundConstant, roundL, roundsL}
+use Rattle.fips202.proofs.Steps.{Same}
+use Rattle.fips202.proofs.Steps as S
+
+pub same-refl : (w : ℕ) (A : Array) → Same w A A
+same-refl w A x y z hx hy hz = refl
+
+pub same-sym : (w : ℕ) (A B : Array) → Same w A B → Same w B A
+same-sym w A B p x y z hx hy hz = sym (p x y z hx hy hz)
+
+pub same-trans : (w : ℕ) (A B C : Array) → Same w A B → Same w B C → Same w A C
+same-trans w A B C p q x y z hx hy hz = p x y z hx hy hz ∙ q x y z hx hy hz
+
+pub rnd-same : (l ir : ℕ) (A B : Array) → Same (2 ^ l) A B → Same (2 ^ l) (rnd l ir A) (rnd l ir B)
+unfolding rnd
+rnd-same l ir A B h =
+    let w = 2 ^ l in S.iota-same w _ _ (S.chi-same w _ _ (S.pi-same w _ _ (S.rho-same w _ _ (S.theta-same w A B h)))) l ir
+
+pub rounds-same : (l i n : ℕ) (A B : Array) → Same (2 ^ l) A B → Same (2 ^ l) (rounds l i n A) (rounds l i n B)
+unfolding rounds
+rounds-same l i zero A B h = h
+rounds-same l i (suc n) A B h = rnd-same l (n + i) (rounds l i n A) (rounds l i n B) (rounds-same l i n A B h)
+
+pub rounds-next : (l n : ℕ) (A : Array) → rounds l 0 (suc n) A ≡ rnd l n (rounds l 0 n A)
+unfolding rounds
+rounds-next l n A = ap (λ (ir : ℕ). rnd l ir (rounds l 0 n A)) (add-zero n)
+
+module _ (l ir : ℕ) (a : List ℕ) (f : Fits (2 ^ l) a) where
+  -- the lanes after theta, rho, pi and chi
+  abbrev four : List ℕ
+  four = chiL (2 ^ l) (piL (rhoL (2 ^ l) (thetaL (2 ^ l) a)))
+
+  abbrev fourA : Array
+  fourA = chi (pi (rho (2 ^ l) (theta (2 ^ l) (bitsOf a))))
+
+  four-fits : Fits (2 ^ l) four
+  four-fits =
+      let w = 2 ^ l in
+      let t = thetaL w a in
+      S.chi-fits w (piL (rhoL w t)) (S.pi-fits w (rhoL w t) (S.rho-fits w t (S.theta-fits w a f)))
+
+  four-bits : Same (2 ^ l) (bitsOf four) fourA
+  four-bits =
+      let w = 2 ^ l in
+      let A = bitsOf a in
+      let t = thetaL w a in
+      let r = rhoL w t in
+      let p = piL r in
+      let ft : Fits w t = S.theta-fits w a f in
+      let fr : Fits w r = S.rho-fits w t ft in
+      let br = same-trans w (bitsOf r) (rho w (bitsOf t)) (rho w (theta w A)) (S.rho-bits w t ft) (S.rho-same w (bitsOf t) (theta w A) (S.theta-bits w a f)) in
+      let bp = same-trans w (bitsOf p) (pi (bitsOf r)) (pi (rho w (theta w A))) (S.pi-bits w r fr) (S.pi-same w (bitsOf r) (rho w (theta w A)) br) in
+      same-trans w (bitsOf four) (chi (bitsOf p)) fourA (S.chi-bits w p (S.pi-fits w r fr)) (S.chi-same w (bitsOf p) (pi (rho w (theta w A))) bp)
+
+  four-some : 0 < length four
+  four-some = omega arith
+
+  pub round-fits : Fits (2 ^ l) (roundL (2 ^ l) (roundConstant l ir) a)
+  unfolding roundL
+  round-fits = S.iota-fits l ir four four-fits four-some
+
+  pub round-bits : Same (2 ^ l) (bitsOf (roundL (2 ^ l) (roundConstant l ir) a)) (rnd l ir (bitsOf a))
+  unfolding roundL rnd
+  round-bits =
+      same-trans (2 ^ l) (bitsOf (iotaL (roundConstant l ir) four)) (iota l ir (bitsOf four)) (iota l ir fourA)
+      (S.iota-bits l ir four four-fits four-some) (S.iota-same (2 ^ l) (bitsOf four) fourA four-bits l ir)
+
+module _ (l : ℕ) (a : List ℕ) (f : Fits (2 ^ l) a) where
+  pub rounds-fit : (n : ℕ) → Fits (2 ^ l) (roundsL l n a)
+  unfolding roundsL
+  rounds-fit zero = f
+  rounds-fit (suc n) = round-fits l n (roundsL l n a) (rounds-fit n)
+
+  pub rounds-bits : (n : ℕ) → Same (2 ^ l) (bitsOf (roundsL l n a)) (rounds l 0 n (bitsOf a))
+  unfolding roundsL rounds
+  rounds-bits zero = same-refl (2 ^ l) (bitsOf a)
+  rounds-bits (suc n) =
+      let b = roundsL l n a in
+      rw (rounds-next l n (bitsOf a))
+      (same-trans (2 ^ l) (bitsOf (roundsL l (suc n) a)) (rnd l n (bitsOf b)) (rnd l n (rounds l 0 n (bitsOf a)))
+      (round-bits l n b (rounds-fit n)) (rnd-same l n (bitsOf b) (rounds l 0 n (bitsOf a)) (rounds-bits n)))

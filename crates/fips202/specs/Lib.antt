@@ -1,0 +1,3 @@
+pub mod Keccak
+pub mod Bytes
+pub mod Lanes

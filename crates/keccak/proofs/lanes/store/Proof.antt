@@ -1,0 +1,16 @@
+-- `store` stores a lane's eight bytes. Assumes nothing.
+use native.Mathlib.Nat.{div-one}
+use borrow.Author.Needs.{needs}
+use Rattle.keccak.proofs.lanes.store.Statement.{statement}
+use Rattle.keccak.proofs.lanes.store.Tie as tie
+
+returns : tie.Need-returns
+returns c = simp div-one
+
+pub store-spec : {M : Type 1} → statement M
+store-spec =
+    tie.close
+    (tie.spec (λ c. search needs) (λ c. search needs) (λ c. search needs) (λ c. search needs) (λ c. search needs) (λ c. search needs)
+    (λ c. search needs) (λ c. search needs) (λ c. search needs) (λ c. search needs) (λ c. search needs) (λ c. search needs) (λ c. search needs)
+    (λ c. search needs) (λ c. search needs) (λ c. search needs) (λ c. search needs) (λ c. search needs) (λ c. search needs) (λ c. search needs)
+    (λ c. search needs) (λ c. search needs) (λ c. search needs) (λ c. search needs) returns)
