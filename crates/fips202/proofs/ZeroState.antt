@@ -4,6 +4,7 @@ use mathlib.Core.Path.{_≡_, refl, sym, _∙_}
 use mathlib.Core.List.{List, [], _∷_}
 use Prim.Native.Nat.{ℕ, _^_, _<_}
 use lib.ListN.{replicate}
+use Rattle.fips202.specs.Keccak.{addLast, register, rc}
 use Rattle.fips202.specs.Bytes.{AreBytes, keccakF1600}
 use Rattle.fips202.specs.Lanes.{roundL, roundsL, lanesOfBytes, bytesOfLanes}
 use Rattle.fips202.proofs.Permutation.{bytesIn, are-bytes-in, keccakF1600-lanes}
@@ -25,7 +26,7 @@ zeroOutput =
     ∷ 0x49 ∷ 0xa2 ∷ 0xec ∷ 0x5c ∷ 0x7b ∷ 0xff ∷ 0xf1 ∷ 0xea ∷ []
 
 computed : bytesOfLanes 8 (roundsL 6 24 (lanesOfBytes 8 (replicate 200 0))) ≡ zeroOutput
-unfolding roundL roundsL
+unfolding addLast register rc roundL roundsL
 computed = refl
 
 zero-bytes : AreBytes (replicate 200 0)

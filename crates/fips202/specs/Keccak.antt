@@ -65,15 +65,15 @@ abbrev pub chi : Array → Array
 chi A x y z = bitXor (A x y z) (bitAnd (bitXor (A ((x + 1) % 5) y z) 1) (A ((x + 2) % 5) y z))
 
 -- 3.2.5, Algorithm 5: rc(t). Steps 3b to 3e: R[8] is added to R[i]
-abbrev pub addLast : ℕ → List ℕ → List ℕ
+unfoldable pub addLast : ℕ → List ℕ → List ℕ
 addLast i R = set R i (bitXor (getD R i 0) (getD R 8 0))
 
 -- the register R after i turns of step 3: a 0 in front, the four sums, the first eight bits
-abbrev pub register : ℕ → List ℕ
+unfoldable pub register : ℕ → List ℕ
 register zero = 1 ∷ 0 ∷ 0 ∷ 0 ∷ 0 ∷ 0 ∷ 0 ∷ 0 ∷ []
 register (suc i) = take 8 (addLast 6 (addLast 5 (addLast 4 (addLast 0 (0 ∷ register i)))))
 
-abbrev pub rc : ℕ → ℕ
+unfoldable pub rc : ℕ → ℕ
 rc t = getD (register (t % 255)) 0 0
 
 -- Algorithm 6, steps 2 and 3: RC[z] of round ir. RC[2^j - 1] = rc(j + 7 ir) for j from 0 to l, and its other bits are 0; `RCBelow k` has
