@@ -1,0 +1,34 @@
+# shellcheck shell=bash
+# Building, running and counting on an x86-64 machine. bench/permutation reads this file.
+
+check_tools() {
+    need rustc "install Rust"
+    need cc "apt-get install gcc libc6-dev"
+    need valgrind "apt-get install valgrind"
+}
+
+# The folder of the crate's source, as the installed package names it, or nothing.
+crate_folder() {
+    local lib
+    lib=$(dpkg-query -L librust-keccak-dev 2> /dev/null | grep '/keccak-[0-9.]*/src/lib\.rs$' || true)
+    if [ -f "$lib" ]; then
+        echo "${lib%/src/lib.rs}"
+    fi
+}
+
+package_version() { dpkg-query -W -f '${Version}' librust-keccak-dev; }
+
+compile() { rustc "$@"; }
+
+# build_program PROGRAM RUSTC-WORDS..
+build_program() {
+    local built=$1
+    shift
+    compile "$@" -L native=target/staticlib -l static=bench -l c -o "$built"
+}
+
+run() { "$@"; }
+
+count() { valgrind --tool=callgrind --callgrind-out-file=/dev/null "$@" 2>&1 > /dev/null | sed -n 's/.*Collected : //p'; }
+
+counted_by() { echo "$(valgrind --version) --tool=callgrind"; }
