@@ -1,16 +1,16 @@
 -- Bit z of a number, `x / 2 ^ z % 2`: of and, or, xor, a complement, shifts and a rotation within w bits; and that numbers of
 -- w bits with the same bits are equal. All over w. Assumes nothing.
-use mathlib.Core.Path.{_≡_, refl, sym, ap, ap₂, _∙_, subst}
+use mathlib.Core.Path.{_≡_, sym, ap, ap₂, _∙_}
 use Prim.Native.Nat.{ℕ, zero, suc, _+_, _*_, _-_, _/_, _%_, _^_, _≤_, _<_}
-use native.Mathlib.Nat.{mod-eq-of-lt, mod-lt, lt-of-lt-of-le, div-eq-of-lt, mul-assoc, mul-mod-left, mod-eq-sub-mod, add-mod-right, zero-mod, sub-zero, pow-suc}
+use native.Mathlib.Nat.{mod-eq-of-lt, mod-lt, lt-of-lt-of-le, div-eq-of-lt, mul-assoc, mod-eq-sub-mod, add-mod-right, zero-mod, sub-zero, pow-suc}
 use native.Mathlib.Omega.{arith}
 use native.Mathlib.Decide.{decLt}
 use lib.Arith.{lt-one}
-use lib.Pow.{pow-pos, pow-mono, pow-add, shr-shr, shl-shr, shr-lt, shr-le, field, mod-mod-pow, ones-split, ones-lt, le-ones, high, low}
+use lib.Pow.{pow-pos, pow-mono, pow-add, shr-shr, shl-shr, shr-le, field, mod-mod-pow, ones-split, ones-lt, le-ones, high, low}
 use lib.Bits.{bitXor, bitAnd, bitOr, xor-shr, xor-mod, and-shr, and-mod, or-shr, or-mod, or-lt, or-zero-r, shifted-even, and-mask, xor-add-and}
 use Rattle.fips202.specs.Keccak.{back}
 use Rattle.fips202.specs.Lanes.{rotl, complement}
-use Rattle.fips202.specs.Bytes.{bit, number}
+use Rattle.fips202.specs.Bytes.{bit}
 
 pub bit-xor : (z a b : ℕ) → bit z (bitXor a b) ≡ bitXor (bit z a) (bit z b)
 bit-xor z a b = ap (λ (n : ℕ). n % 2) (xor-shr a b z) ∙ xor-mod (a / 2 ^ z) (b / 2 ^ z) 1

@@ -1,13 +1,13 @@
 -- What is known of KECCAK-f on bytes, and all that callers need: the rounds on lanes make it, it keeps the length, and it gives bytes,
 -- whatever it is given. Over l, with m = 2 ^ l / 8 bytes a lane; at the end for KECCAK-f[1600]. Assumes nothing.
-use mathlib.Core.Path.{_≡_, refl, sym, ap, ap₂, _∙_, subst, subst⁻¹}
+use mathlib.Core.Path.{_≡_, refl, sym, ap, ap₂, _∙_, subst}
 use mathlib.Core.List.{List, map}
 use Prim.Native.Nat.{ℕ, _+_, _*_, _/_, _%_, _^_, _<_}
 use native.Mathlib.Nat.{mod-lt}
 use native.Mathlib.Omega.{arith}
 use lib.ListN.{length, getD}
 use lib.Seq.{ext-getD}
-use Rattle.fips202.specs.Keccak.{countFrom, arrayOf, stringOf, rounds, keccakF}
+use Rattle.fips202.specs.Keccak.{countFrom, arrayOf, rounds, keccakF}
 use Rattle.fips202.specs.Bytes.{bit, number, AreBytes, bitsOfBytes, bytesOfBits, onBytes, keccakF1600}
 use Rattle.fips202.specs.Lanes.{Fits, bitsOf, roundsL, lanesOfBytes, byte, bytesOfLanes}
 use Rattle.fips202.proofs.Count.{length-upto, getD-upto, each-upto, same-upto}

@@ -10,7 +10,7 @@ use lib.ListN.{length, getD}
 use lib.Seq.{getD-set-same, getD-set-other}
 use lib.Pow.{ones-sub-lt}
 use lib.Bits.{bitXor, bitAnd, xor-lt, and-lt}
-use Rattle.fips202.specs.Keccak.{Array, back, thetaC, thetaD, theta, offset, rho, pi, chi, RC, iota}
+use Rattle.fips202.specs.Keccak.{Array, back, thetaC, theta, offset, rho, pi, chi, RC, iota}
 use Rattle.fips202.specs.Bytes.{bit}
 use Rattle.fips202.specs.Lanes.{lane, lanes, Fits, bitsOf, rotl, complement, column, thetaAt, thetaL, offsets, rhoAt, rhoL, piAt, piL, chiAt, chiL, iotaL, roundConstant}
 use Rattle.fips202.proofs.Count.{getD-upto}

@@ -2,12 +2,12 @@
 -- expects. Computed on lanes, and so true of FIPS 202's bits. Assumes nothing.
 use mathlib.Core.Path.{_≡_, refl, sym, _∙_}
 use mathlib.Core.List.{List, [], _∷_}
-use Prim.Native.Nat.{ℕ, _^_, _<_}
+use Prim.Native.Nat.{ℕ}
 use lib.ListN.{replicate}
 use Rattle.fips202.specs.Keccak.{addLast, register, rc}
 use Rattle.fips202.specs.Bytes.{AreBytes, keccakF1600}
 use Rattle.fips202.specs.Lanes.{roundL, roundsL, lanesOfBytes, bytesOfLanes}
-use Rattle.fips202.proofs.Permutation.{bytesIn, are-bytes-in, keccakF1600-lanes}
+use Rattle.fips202.proofs.Permutation.{are-bytes-in, keccakF1600-lanes}
 
 abbrev pub zeroOutput : List ℕ
 zeroOutput =

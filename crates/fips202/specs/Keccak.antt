@@ -1,6 +1,6 @@
 -- FIPS 202, section 3, in its own order: KECCAK-f on single bits. A bit is the number 0 or 1. Everything is over l, and the lane
 -- width w = 2 ^ l of a permutation of 25 w bits: l = 4, 5, 6 for 400, 800, 1600.
-use mathlib.Core.Bool.{Bool, true, false, _&&_}
+use mathlib.Core.Bool.{true, false, _&&_}
 use mathlib.Core.List.{List, [], _∷_, map}
 use Prim.Native.Nat.{ℕ, zero, suc, _+_, _*_, _-_, _/_, _%_, _^_}
 use lib.ListN.{getD, set, take}

@@ -1,5 +1,5 @@
 -- `permute` is KECCAK-f[1600]: the rounds on lanes make it, and the parameter is bytes. Assumes nothing.
-use mathlib.Core.Path.{_≡_, ap, _∙_}
+use mathlib.Core.Path.{ap, _∙_}
 use borrow.Author.Needs.{needs}
 use native.Mathlib.Omega.{arith}
 use lib.ListN.{getD}
