@@ -29,7 +29,7 @@ rotl w x (suc n) = bitOr ((x * 2 ^ suc n) % 2 ^ w) (x / 2 ^ (w - suc n))
 abbrev pub complement : ℕ → ℕ → ℕ
 complement w x = (2 ^ w - 1) - x
 
--- theta
+-- Algorithm 1: theta
 abbrev pub column : List ℕ → ℕ → ℕ
 column a x = bitXor (bitXor (bitXor (bitXor (lane a x 0) (lane a x 1)) (lane a x 2)) (lane a x 3)) (lane a x 4)
 
@@ -39,7 +39,7 @@ thetaAt w a x y = bitXor (lane a x y) (bitXor (column a ((x + 4) % 5)) (rotl w (
 abbrev pub thetaL : ℕ → List ℕ → List ℕ
 thetaL w a = lanes (thetaAt w a)
 
--- rho, by the offsets of FIPS 202's Table 2: that of lane (x, y) at x + 5 y
+-- Algorithm 2: rho, by the offsets of Table 2, that of lane (x, y) at x + 5 y
 abbrev pub offsets : List ℕ
 offsets = 0 ∷ 1 ∷ 190 ∷ 28 ∷ 91 ∷ 36 ∷ 300 ∷ 6 ∷ 55 ∷ 276 ∷ 3 ∷ 10 ∷ 171 ∷ 153 ∷ 231 ∷ 105 ∷ 45 ∷ 15 ∷ 21 ∷ 136 ∷ 210 ∷ 66 ∷ 253 ∷ 120 ∷ 78 ∷ []
 
@@ -49,28 +49,28 @@ rhoAt w a x y = rotl w (lane a x y) (getD offsets (x + 5 * y) 0 % w)
 abbrev pub rhoL : ℕ → List ℕ → List ℕ
 rhoL w a = lanes (rhoAt w a)
 
--- pi
+-- Algorithm 3: pi
 abbrev pub piAt : List ℕ → ℕ → ℕ → ℕ
 piAt a x y = lane a ((x + 3 * y) % 5) x
 
 abbrev pub piL : List ℕ → List ℕ
 piL a = lanes (piAt a)
 
--- chi
+-- Algorithm 4: chi
 abbrev pub chiAt : ℕ → List ℕ → ℕ → ℕ → ℕ
 chiAt w a x y = bitXor (lane a x y) (bitAnd (complement w (lane a ((x + 1) % 5) y)) (lane a ((x + 2) % 5) y))
 
 abbrev pub chiL : ℕ → List ℕ → List ℕ
 chiL w a = lanes (chiAt w a)
 
--- iota, with the lane c of the round constant
+-- Algorithm 6: iota, with the lane c of the round constant
 abbrev pub iotaL : ℕ → List ℕ → List ℕ
 iotaL c a = set a 0 (bitXor (getD a 0 0) c)
 
 abbrev pub roundConstant : ℕ → ℕ → ℕ
 roundConstant l ir = number (2 ^ l) (RC l ir)
 
--- the round, and the first n rounds
+-- 3.3: the round, and the first n rounds
 unfoldable pub roundL : ℕ → ℕ → List ℕ → List ℕ
 roundL w c a = iotaL c (chiL w (piL (rhoL w (thetaL w a))))
 
@@ -78,7 +78,7 @@ unfoldable pub roundsL : ℕ → ℕ → List ℕ → List ℕ
 roundsL l zero a = a
 roundsL l (suc n) a = roundL (2 ^ l) (roundConstant l n) (roundsL l n a)
 
--- the number that bytes stand for, the least significant first
+-- B.1: the number that bytes stand for, the least significant first
 abbrev pub leNumber : List ℕ → ℕ
 leNumber [] = 0
 leNumber (b ∷ bs) = b + 2 ^ 8 * leNumber bs

@@ -6,7 +6,7 @@ mod steps;
 ghost use mathlib.Core.Path.{_≡_};
 ghost use Rattle.fips202.specs.Bytes.{keccakF1600};
 
-// Every 200 bytes are a state: there is no bad input.
+// The state after KECCAK-f[1600]. Every 200 bytes are a state, so there is no bad input.
 pub fn permute(st: [u8; 200]) -> [u8; 200]
     ensures { λ r. ⌜ r ≡ keccakF1600 st ⌝ }
 {
