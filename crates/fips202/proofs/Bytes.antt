@@ -13,7 +13,7 @@ use Rattle.fips202.specs.Bytes.{bit, AreBytes, bitsOfBytes}
 use Rattle.fips202.specs.Lanes.{Fits, bitsOf, leNumber, laneOfBytes, lanesOfBytes, byte, bytesOfLanes}
 use Rattle.fips202.proofs.Count.{length-upto, getD-upto, each-upto}
 use Rattle.fips202.proofs.Bit.{bit-mod-lt, bit-shr}
-use Rattle.fips202.proofs.Steps.{Same}
+use Rattle.fips202.proofs.Same.{Same}
 use Rattle.fips202.proofs.Strings.{place-lt, place-div, place-mod}
 
 bit-zero : (z : ℕ) → bit z 0 ≡ 0

@@ -2,11 +2,13 @@ pub mod Count
 pub mod Table
 pub mod Bit
 pub mod Number
+pub mod Same
 pub mod Rho
 pub mod RoundConstant
 pub mod Steps
 pub mod Rounds
 pub mod Strings
 pub mod Bytes
+pub mod ByteStrings
 pub mod Permutation
 pub mod ZeroState

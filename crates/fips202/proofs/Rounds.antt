@@ -1,5 +1,5 @@
 -- The round on lanes, and n rounds, have exactly the bits of FIPS 202's, over l (lanes of w = 2 ^ l bits). Assumes nothing.
-use mathlib.Core.Path.{_≡_, refl, sym, ap, _∙_}
+use mathlib.Core.Path.{_≡_, ap}
 use mathlib.Core.List.{List}
 use Prim.Native.Nat.{ℕ, zero, suc, _+_, _^_, _<_}
 use native.Mathlib.Nat.{add-zero}
@@ -7,17 +7,8 @@ use native.Mathlib.Omega.{arith}
 use lib.ListN.{length}
 use Rattle.fips202.specs.Keccak.{Array, theta, rho, pi, chi, iota, rnd, rounds}
 use Rattle.fips202.specs.Lanes.{Fits, bitsOf, thetaL, rhoL, piL, chiL, iotaL, roundConstant, roundL, roundsL}
-use Rattle.fips202.proofs.Steps.{Same}
+use Rattle.fips202.proofs.Same.{Same, same-refl, same-trans}
 use Rattle.fips202.proofs.Steps as S
-
-pub same-refl : (w : ℕ) (A : Array) → Same w A A
-same-refl w A x y z hx hy hz = refl
-
-pub same-sym : (w : ℕ) (A B : Array) → Same w A B → Same w B A
-same-sym w A B p x y z hx hy hz = sym (p x y z hx hy hz)
-
-pub same-trans : (w : ℕ) (A B C : Array) → Same w A B → Same w B C → Same w A C
-same-trans w A B C p q x y z hx hy hz = p x y z hx hy hz ∙ q x y z hx hy hz
 
 pub rnd-same : (l ir : ℕ) (A B : Array) → Same (2 ^ l) A B → Same (2 ^ l) (rnd l ir A) (rnd l ir B)
 unfolding rnd

@@ -15,13 +15,11 @@ use Rattle.fips202.specs.Bytes.{bit}
 use Rattle.fips202.specs.Lanes.{lane, lanes, Fits, bitsOf, rotl, complement, column, thetaAt, thetaL, offsets, rhoAt, rhoL, piAt, piL, chiAt, chiL, iotaL, roundConstant}
 use Rattle.fips202.proofs.Count.{getD-upto}
 use Rattle.fips202.proofs.Bit.{bit-xor, bit-and, bit-not, bit-rotl, rotl-lt}
+use Rattle.fips202.proofs.Same.{Same}
 use Rattle.fips202.proofs.Rho.{table-2}
 use Rattle.fips202.proofs.RoundConstant.{constant-lt, constant-bits}
 
--- ---- two state arrays that are one state
-
-abbrev pub Same : ℕ → Array → Array → Type 0
-Same w A B = (x y z : ℕ) → x < 5 → y < 5 → z < w → A x y z ≡ B x y z
+-- ---- FIPS 202's steps on two arrays that are one state
 
 module _ (w : ℕ) (A B : Array) (h : Same w A B) where
   column-same : (x z : ℕ) → x < 5 → z < w → thetaC A x z ≡ thetaC B x z

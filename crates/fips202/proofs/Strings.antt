@@ -11,8 +11,8 @@ use lib.Arith.{digits-lt, digits-div, digits-mod}
 use Rattle.fips202.specs.Keccak.{Array, arrayOf, stringOf, rnd, rounds, keccakP, keccakF}
 use Rattle.fips202.specs.Lanes.{Fits, bitsOf, roundsL}
 use Rattle.fips202.proofs.Count.{length-upto, getD-upto}
-use Rattle.fips202.proofs.Steps.{Same}
-use Rattle.fips202.proofs.Rounds.{same-refl, same-sym, same-trans, rnd-same, rounds-same, rounds-next, rounds-bits}
+use Rattle.fips202.proofs.Same.{Same, same-refl, same-sym, same-trans}
+use Rattle.fips202.proofs.Rounds.{rnd-same, rounds-same, rounds-next, rounds-bits}
 
 -- ---- 3.1.2 and 3.1.3
 

@@ -7,7 +7,8 @@ use lib.ListN.{replicate}
 use Rattle.fips202.specs.Keccak.{addLast, register, rc}
 use Rattle.fips202.specs.Bytes.{AreBytes, keccakF1600}
 use Rattle.fips202.specs.Lanes.{roundL, roundsL, lanesOfBytes, bytesOfLanes}
-use Rattle.fips202.proofs.Permutation.{are-bytes-in, keccakF1600-lanes}
+use Rattle.fips202.proofs.ByteStrings.{are-bytes-in}
+use Rattle.fips202.proofs.Permutation.{keccakF1600-lanes}
 
 abbrev pub zeroOutput : List ℕ
 zeroOutput =
