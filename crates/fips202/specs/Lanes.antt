@@ -90,9 +90,12 @@ laneOfBytes m s i = leNumber (map (λ k. getD s (m * i + k) 0) (countFrom 0 m))
 abbrev pub lanesOfBytes : ℕ → List ℕ → List ℕ
 lanesOfBytes m s = map (laneOfBytes m s) (countFrom 0 25)
 
--- byte k of a number, byte j of lanes, and all of them
+-- byte k of a number, a lane's m bytes, and the bytes of all lanes
 abbrev pub byte : ℕ → ℕ → ℕ
 byte k x = x / 2 ^ (8 * k) % 2 ^ 8
+
+abbrev pub bytesOfLane : ℕ → ℕ → List ℕ
+bytesOfLane m x = map (λ k. byte k x) (countFrom 0 m)
 
 abbrev pub bytesOfLanes : ℕ → List ℕ → List ℕ
 bytesOfLanes m a = map (λ j. byte (j % m) (getD a (j / m) 0)) (countFrom 0 (m * 25))

@@ -5,10 +5,10 @@ use Prim.Native.Nat.{ℕ, zero, suc, _+_, _*_, _<_}
 use native.Mathlib.Omega.{arith}
 use native.Mathlib.Numerals.{add-one}
 use lib.ListN.{getD, set, replicate}
+use lib.Seq.{sets}
 use Rattle.fips202.specs.Keccak.{countFrom}
-use Rattle.fips202.specs.Lanes.{roundConstant, roundL, roundsL, leNumber, laneOfBytes, lanesOfBytes, bytesOfLanes}
+use Rattle.fips202.specs.Lanes.{roundConstant, roundL, roundsL, leNumber, laneOfBytes, lanesOfBytes, bytesOfLane, bytesOfLanes}
 use Rattle.fips202.proofs.Count.{getD-upto}
-use Rattle.keccak.specs.Stored.{storeLane}
 
 -- f 0, f 1, .., f (n - 1), one after the other
 unfoldable pub turns : (ℕ → List ℕ → List ℕ) → ℕ → List ℕ → List ℕ
@@ -29,7 +29,7 @@ read-all s = refl
 
 -- the loop that writes lanes
 abbrev pub writeAt : List ℕ → ℕ → List ℕ → List ℕ
-writeAt a i out = storeLane out (i * 8) (getD a i 0)
+writeAt a i out = sets out (i * 8) (bytesOfLane 8 (getD a i 0))
 
 pub write-all : (a : List ℕ) → turns (writeAt a) 25 (replicate 200 0) ≡ bytesOfLanes 8 a
 unfolding turns

@@ -2,8 +2,8 @@
 ghost use mathlib.Core.Path.{_≡_};
 ghost use mathlib.Core.List.{[], _∷_};
 ghost use Prim.Native.Nat.{_*_, _<_};
-ghost use Rattle.fips202.specs.Lanes.{leNumber, laneOfBytes, lanesOfBytes, bytesOfLanes};
-ghost use Rattle.keccak.specs.Stored.{storeLane};
+ghost use lib.Seq.{sets};
+ghost use Rattle.fips202.specs.Lanes.{leNumber, laneOfBytes, lanesOfBytes, bytesOfLane, bytesOfLanes};
 
 fn join(b0: u8, b1: u8, b2: u8, b3: u8, b4: u8, b5: u8, b6: u8, b7: u8) -> u64
     ensures { λ r. ⌜ r ≡ leNumber (b0 ∷ b1 ∷ b2 ∷ b3 ∷ b4 ∷ b5 ∷ b6 ∷ b7 ∷ []) ⌝ }
@@ -50,7 +50,7 @@ pub fn lanes(st: &[u8; 200]) -> [u64; 25]
 // Stores lane i of a state, `x`, as its eight bytes.
 fn store(out: &mut [u8; 200], i: usize, x: u64)
     requires { ⌜ i < 25 ⌝ }
-    ensures { λ _. ⌜ now (out .exit) ≡ storeLane (now (out .entry)) (i * 8) x ⌝ }
+    ensures { λ _. ⌜ now (out .exit) ≡ sets (now (out .entry)) (i * 8) (bytesOfLane 8 x) ⌝ }
 {
     let k = i * 8;
     out[k] = (x % 0x100) as u8;
