@@ -1,0 +1,212 @@
+-- Laws of a call: the flags that are mixed in, the refusals, the opening, and the work's outcome. Assumes nothing.
+use Prim.Native.Nat.{ℕ, zero, suc, _+_, _≤_, _<_}
+use mathlib.Core.Path.{_≡_, refl, sym, ap, _∙_}
+use mathlib.Core.List.{List, [], _∷_}
+use mathlib.Core.Bool.{Bool, true, false, not, cond, _&&_}
+use lib.Dec.{eqb, ltb, leb, lit≤}
+use lib.ListN.{length, replicate, length-replicate}
+use borrow.Author.Tests.{ltb-true, leb-true}
+use native.Mathlib.Omega.{arith}
+use Rattle.strobe.specs.Duplex.{Sponge, Duplex, Rule, close, after, met, same}
+use Rattle.strobe.specs.Flags.{C, K, META-AD, has, operationOf, operation, isRecvMac, absorbing, zeroing, overwriting, ruleOf}
+use Rattle.strobe.specs.Loops.{at, duplexOf, Room, Fed, Ran, Formed, Opens, Finishes}
+use Rattle.strobe.specs.Session.{rateOf, sponge, spongeOf, seen, held, given, freshAt, Is, Comes, Calls}
+use Rattle.strobe.specs.Strobe.{Strobe, disagrees, mixed, directed, forced, beginOp, opened, knownLast, wellFormed, refusal, verdict, worked, settled, call, unnamed, fresh}
+use Rattle.strobe.specs.Answer.{number}
+use Rattle.strobe.specs.declared.answer.Answer.{Answer}
+use Rattle.strobe.specs.declared.answer.Answer.the-variants.{Done, KeyFlag, NoOperation, NotTheLast, CutMac, TooLong, NoLevel, NotASession, MacUnequal, BadSaved, ShortBuffer}
+use Rattle.strobe.specs.declared.call.Opened.{Opened}
+use Rattle.strobe.specs.declared.duplex.Positions.{Positions}
+use Rattle.strobe.specs.declared.flags.Operation.{Operation}
+use Rattle.strobe.specs.declared.flags.Operation.the-variants.{Ratchet, RecvMac, Unknown}
+use Rattle.strobe.specs.declared.session.Outcome.{Outcome}
+use Rattle.strobe.specs.declared.flags.Flags.{Flags}
+use Rattle.strobe.specs.declared.level.Level.{Level}
+use Rattle.strobe.specs.declared.level.Level.the-variants.{B128, B256}
+use Rattle.strobe.specs.declared.direction.Direction.{Direction}
+use Rattle.strobe.specs.declared.direction.Direction.the-variants.{Neither, Sender, Receiver}
+use Rattle.strobe.specs.declared.session.Session.{Session}
+use Rattle.strobe.proofs.Data.{room-of, after-room, out-kept, after-zeros}
+
+pub rate-small : (l : Level) → rateOf l ≤ 166
+rate-small B128 = lit≤ tt
+rate-small B256 = lit≤ tt
+
+cond-bit : (i : Bool) → cond i 1 0 ≤ 1
+cond-bit true = omega arith
+cond-bit false = omega arith
+
+cond-no-bit : (i : Bool) → cond i 0 1 ≤ 1
+cond-no-bit true = omega arith
+cond-no-bit false = omega arith
+
+pub disagrees-bit : (dir : Direction) (i : Bool) → disagrees dir i ≤ 1
+disagrees-bit Neither i = cond-bit i
+disagrees-bit Sender i = cond-bit i
+disagrees-bit Receiver i = cond-no-bit i
+
+-- ---- a session that passed the tests may be worked on
+
+and-left : (a b : Bool) → a && b ≡ true → a ≡ true
+and-left true b e = refl
+and-left false b e = e
+
+and-right : (a b : Bool) → a && b ≡ true → b ≡ true
+and-right true b e = e
+and-right false b e = let z : _≡_ {A = ℕ} 0 1 = cc in absurd (omega arith)
+
+well : (w : Bool) (n : ℕ) → cond (not w) 8 n ≡ 0 → w ≡ true
+well true n e = refl
+well false n e = absurd (omega arith)
+
+pub well-is-formed : (s : Session) → wellFormed (rateOf (s .level)) (seen s) ≡ true → Formed s
+unfolding wellFormed
+well-is-formed s e =
+    let rest = and-right (ltb (s .pos) (rateOf (s .level))) _ e in
+    record {
+      below = ltb-true _ _ (and-left (ltb (s .pos) (rateOf (s .level))) (leb (s .begin) (s .pos) && knownLast (s .last)) e);
+      begun = leb-true _ _ (and-left (leb (s .begin) (s .pos)) (knownLast (s .last)) rest);
+    }
+
+pub not-refused-formed : (s : Session) (f : Flags) (more : Bool) (n : ℕ) → refusal (rateOf (s .level)) (seen s) f more n ≡ 0 → Formed s
+unfolding refusal
+not-refused-formed s f more n e = well-is-formed s (well _ _ e)
+
+-- ---- there is a place for the next byte once an operation is opened
+
+forced-room : (sp : Sponge) (f : Flags) (d : Duplex) → Room (sp .rate) (d .pos) (d .begin)
+    → Room (sp .rate) (forced sp f d .pos) (forced sp f d .begin)
+unfolding forced
+forced-room sp f d h = go (has f C && not (eqb (d .pos) 0))
+  where
+    go : (t : Bool) → Room (sp .rate) (cond t (close sp d) d .pos) (cond t (close sp d) d .begin)
+    go true = record { below = omega arith; begun = omega arith; small = h .small }
+    go false = h
+
+pub begun-room : {rate pos : ℕ} → pos < rate → rate ≤ 166 → Room rate pos (pos + 1)
+begun-room h k = record { below = h; begun = omega arith; small = k }
+
+pub opened-room : (s : Session) (f : Flags) (more : Bool) → Formed s
+    → let d = opened (spongeOf (s .level)) (seen s) f more .duplex in Room (rateOf (s .level)) (d .pos) (d .begin)
+unfolding opened beginOp
+opened-room s f true h = record { below = h .below; begun = omega arith; small = rate-small (s .level) }
+opened-room s f false h =
+    let sp = spongeOf (s .level) in
+    let d = at (s .state) (s .pos) (s .pos + 1) in
+    let two = s .begin ∷ mixed (directed (s .direction) f) f ∷ [] in
+    forced-room sp f (after sp absorbing d two)
+    (after-room sp absorbing d two (begun-room (h .below) (rate-small (s .level))))
+
+-- the same of what the code holds
+pub ready-room : (s : Session) (f : Flags) (more : Bool) (st : List ℕ) (ready : Opened) (rate : ℕ) → rate ≡ rateOf (s .level)
+    → Formed s → Opens s f more st ready → Room rate (ready .places .pos) (ready .places .begin)
+ready-room s f more st ready rate er h o =
+    rw er
+    (room-of (spongeOf (s .level)) _ (duplexOf st (ready .places)) (ap (λ (t : Strobe). t .duplex) (o .opens)) (opened-room s f more h))
+
+-- ---- the outcome of a call
+
+number-zero : (a : Answer) → number a ≡ 0 → a ≡ Done
+number-zero Done e = refl
+number-zero KeyFlag e = absurd (omega arith)
+number-zero NoOperation e = absurd (omega arith)
+number-zero NotTheLast e = absurd (omega arith)
+number-zero CutMac e = absurd (omega arith)
+number-zero TooLong e = absurd (omega arith)
+number-zero NoLevel e = absurd (omega arith)
+number-zero NotASession e = absurd (omega arith)
+number-zero MacUnequal e = absurd (omega arith)
+number-zero BadSaved e = absurd (omega arith)
+number-zero ShortBuffer e = absurd (omega arith)
+
+-- a refusal changes nothing
+pub settled-not : (sp : Sponge) (n : ℕ) (s : Strobe) (f : Flags) (more : Bool) (bs : List ℕ) → (n ≡ 0 → ⊥)
+    → settled sp n s f more bs ≡ record { answer = n; strobe = s; lent = bs }
+unfolding settled
+settled-not sp zero s f more bs h = absurd (h refl)
+settled-not sp (suc n) s f more bs h = refl
+
+module _ (s : Session) (f : Flags) (more : Bool) (bs : List ℕ) where
+  pub refused : (a : Answer) → (a ≡ Done → ⊥) → number a ≡ refusal (rateOf (s .level)) (seen s) f more (length bs)
+      → Calls s f more bs (record { session = s; answer = a }) bs
+  unfolding call
+  refused a h e =
+      let u = settled-not (spongeOf (s .level)) (number a) (seen s) f more bs (λ z. h (number-zero a z)) in
+      record { outcome = record { answer = rw (← e, u); session = rw (← e, u) }; lent = rw (← e, u) }
+
+  -- opened, worked on and finished, it is the definition's call
+  pub finish : (rate : ℕ) → rate ≡ rateOf (s .level)
+      → (st : List ℕ) (ready : Opened) (st′ : List ℕ) (places : Positions) (a : Answer) (r : Outcome) (bs′ : List ℕ)
+      → refusal (rateOf (s .level)) (seen s) f more (length bs) ≡ 0
+      → Opens s f more st ready
+      → Ran rate (ruleOf (operation f)) st (ready .places) bs st′ places bs′
+      → number a ≡ verdict (sponge rate) (operation f) (duplexOf st (ready .places)) bs
+      → Finishes (s .level) st′ places ready a r
+      → Calls s f more bs r bs′
+  unfolding call settled worked
+  finish rate er st ready st′ places a r bs′ go o w v e =
+      let w′ : Ran (rateOf (s .level)) (ruleOf (operation f)) st (ready .places) bs st′ places bs′ = rw er at w in
+      let v′ : number a ≡ verdict (spongeOf (s .level)) (operation f) (duplexOf st (ready .places)) bs = rw er at v in
+      record {
+        outcome = record {
+          answer = rw (go, ← o .opens, e .answer) v′;
+          session = rw (go, ← o .opens, e .session) (ap (λ (d : Duplex). held (s .level) (record { duplex = d; direction = ready .direction; last = ready .last })) (w′ .fed));
+        };
+        lent = rw (go, ← o .opens) (w′ .lent);
+      }
+
+-- only a received MAC is judged
+pub verdict-done : (sp : Sponge) (o : Operation) (d : Duplex) (bs : List ℕ) → isRecvMac o ≡ false → 0 ≡ verdict sp o d bs
+unfolding verdict
+verdict-done sp o d bs e = rw e
+
+pub verdict-mac : (sp : Sponge) (o : Operation) (d : Duplex) (bs : List ℕ) (n : ℕ) (t : Bool) → o ≡ RecvMac
+    → n ≡ cond t 0 9 → t ≡ same (met sp overwriting d bs) bs → n ≡ verdict sp o d bs
+unfolding verdict
+verdict-mac sp o d bs n t e h g = rw (e, ← g) (h ∙ go t)
+  where
+    go : (t : Bool) → cond {A = ℕ} t 0 9 ≡ cond (not t) 9 0
+    go true = refl
+    go false = refl
+
+-- the work of an operation that keeps the lent bytes
+pub feeding : (rate : ℕ) (r : Rule) (st : List ℕ) (p : Positions) (bs : List ℕ) (st′ : List ℕ) (p′ : Positions) → ((x b : ℕ) → r .buffer x b ≡ b)
+    → Fed rate r st p bs st′ p′ → Ran rate r st p bs st′ p′ bs
+feeding rate r st p bs st′ p′ keep h = record { fed = h; lent = sym (out-kept (sponge rate) r (duplexOf st p) bs keep) }
+
+-- a ratchet looks at no byte
+pub ratchet-any : (s : Session) (f : Flags) (more : Bool) (bs : List ℕ) (r : Outcome) → operation f ≡ Ratchet
+    → Calls s f more (replicate (length bs) 0) r (replicate (length bs) 0) → Calls s f more bs r bs
+unfolding call settled worked verdict
+ratchet-any s f more bs r e h =
+    go (refusal (rateOf (s .level)) (seen s) f more (length bs)) (rw (length-replicate {A = ℕ} (length bs) 0) at (h .outcome))
+  where
+    go : (n : ℕ) → Is (let c = settled (spongeOf (s .level)) n (seen s) f more (replicate (length bs) 0) in given (c .answer) (held (s .level) (c .strobe))) r
+        → Comes (s .level) (settled (spongeOf (s .level)) n (seen s) f more bs) r bs
+    go zero h = rw e (record { outcome = rw (e, after-zeros) at h; lent = sym (out-kept _ zeroing _ bs (λ x b. refl)) })
+    go (suc n) h = record { outcome = h; lent = refl }
+
+-- a byte that is none of the twenty is refused
+pub unknown-refused : (rate : ℕ) (s : Strobe) (f : Flags) (more : Bool) (n : ℕ) → operation f ≡ Unknown → refusal rate s f more n ≡ 0 → ⊥
+unfolding refusal
+unknown-refused rate s f more n e h = go (wellFormed rate s) (has f K) (rw e at h)
+  where
+    go : (w k : Bool) → cond {A = ℕ} (not w) 8 (cond k 1 2) ≡ 0 → ⊥
+    go true true h = omega arith
+    go true false h = omega arith
+    go false k h = omega arith
+
+-- ---- creation
+
+-- the protocol name of a fresh session is never refused
+pub fresh-done : (l : Level) (name : List ℕ) → call (spongeOf l) (unnamed (spongeOf l)) META-AD false name .answer ≡ 0
+unfolding call settled worked verdict refusal wellFormed unnamed operation operationOf
+fresh-done B128 name = refl
+fresh-done B256 name = refl
+
+pub named : (l : Level) (u : Session) (name : List ℕ) (r : Outcome) → u ≡ held l (unnamed (spongeOf l)) → Calls u META-AD false name r name
+    → Is (freshAt l name) r
+unfolding fresh
+named l u name r e h =
+    let g = rw e at (h .outcome) in
+    record { answer = g .answer ∙ fresh-done l name; session = g .session }

@@ -1,0 +1,31 @@
+-- `begin_op` is two steps and a forced close. Assumes nothing.
+use borrow.Author.Needs.{needs}
+use Rattle.strobe.specs.Duplex.{after}
+use Rattle.strobe.specs.Flags.{absorbing}
+use Rattle.strobe.specs.Session.{sponge}
+use Rattle.strobe.specs.Strobe.{beginOp}
+use Rattle.strobe.proofs.Data.{step-room, room-of}
+use Rattle.strobe.proofs.Calls.{begun-room}
+use Rattle.strobe.proofs.opening.begin_op.Statement.{statement}
+use Rattle.strobe.proofs.opening.begin_op.Tie as tie
+
+absorb-byte-requires-2 : tie.Need-absorb-byte-requires-2
+absorb-byte-requires-2 c κs =
+    let sp = sponge (c .before .before .before .before .before .before .args .rate) in
+    room-of sp _ _ (c .before .before .absorb-byte .ensures) (step-room sp absorbing _ _ (begun-room (c .before .before .before .before .before .before .pre .0) (c .before .before .before .before .before .before .pre .2)))
+
+forced-requires : tie.Need-forced-requires
+forced-requires c κs =
+    let sp = sponge (c .before .before .before .before .before .before .before .before .args .rate) in
+    room-of sp _ _ (c .before .absorb-byte2 .ensures)
+    (step-room sp absorbing _ _ (room-of sp _ _ (c .before .before .before .before .absorb-byte .ensures) (step-room sp absorbing _ _ (begun-room (c .before .before .before .before .before .before .before .before .pre .0) (c .before .before .before .before .before .before .before .before .pre .2)))))
+
+returns : tie.Need-returns
+unfolding beginOp after
+returns c = rw (← c .before .before .before .mixed .ensures, ← c .before .before .before .before .before .absorb-byte .ensures, ← c .before .before .absorb-byte2 .ensures) (c .forced .ensures)
+
+pub begin-op-spec : {M : Type 1} → statement M
+begin-op-spec =
+    tie.close
+    (tie.spec (λ c. search needs) (λ c. search needs) (λ c κs. search needs) (λ c κs. search needs) absorb-byte-requires-2 forced-requires
+    returns)

@@ -1,0 +1,42 @@
+-- `generalized_recv_mac`: the refusal, or the opening, the comparison, and the session behind it. Assumes nothing.
+use mathlib.Core.Path.{refl, sym, ap, _∙_}
+use mathlib.Core.List.{[], _∷_}
+use borrow.Author.Needs.{needs}
+use types.Run.{miss}
+use Rattle.strobe.specs.Answer.{number}
+use Rattle.strobe.proofs.Calls.{not-refused-formed, ready-room, refused, finish, verdict-mac, feeding}
+use Rattle.strobe.proofs.Twenty.{macs-are}
+use Rattle.strobe.specs.Flags.{overwriting}
+use Rattle.strobe.proofs.session.Session.generalized_recv_mac.Statement.{statement}
+use Rattle.strobe.proofs.session.Session.generalized_recv_mac.Tie as tie
+
+returns : tie.Need-returns
+returns c =
+    let o = c .before in
+    refused (o .before .before .args .self) (o .before .before .args .flags) (o .before .before .args .more) _
+    (o .tested .result) (λ e. miss (1 ∷ 2 ∷ 3 ∷ 4 ∷ 5 ∷ 6 ∷ 7 ∷ 8 ∷ 9 ∷ 10 ∷ []) 0 tt (rw e at (c .match .keys2))) (o .tested .ensures)
+
+opened-requires : tie.Need-opened-requires
+opened-requires c κs =
+    let o = c .before .before in
+    (not-refused-formed _ _ _ _ (sym (o .before .before .tested .ensures) ∙ ap number (o .enum-told .given .1)), refl)
+
+check-mac-requires : tie.Need-check-mac-requires
+check-mac-requires c κs =
+    let o = c .before .before in
+    ready-room _ _ _ _ (o .opened .result) _ (c .rate .ensures) (not-refused-formed _ _ _ _ (sym (o .before .before .before .before .before .tested .ensures) ∙ ap number (o .before .before .before .enum-told .given .1))) (o .opened .ensures)
+
+returns-2 : tie.Need-returns-2
+returns-2 c =
+    let o = c .before .before .before .before .before in
+    finish (o .before .before .before .before .before .before .before .args .self) (o .before .before .before .before .before .before .before .args .flags) (o .before .before .before .before .before .before .before .args .more) _ _ (c .before .before .before .rate .ensures) _ (o .opened .result) _ _ _ _ _
+    ((sym (o .before .before .before .before .before .tested .ensures) ∙ ap number (o .before .before .before .enum-told .given .1))) (o .opened .ensures)
+    (rw (macs-are (o .before .before .before .before .before .before .before .args .flags) (o .before .before .before .before .before .before .before .pre)) (feeding _ overwriting _ _ _ _ _ (λ x b. refl) (c .before .before .check-mac .ensures .fed)))
+    (verdict-mac _ _ _ _ _ _ (macs-are (o .before .before .before .before .before .before .before .args .flags) (o .before .before .before .before .before .before .before .pre)) (c .before .verdict .ensures) (c .before .before .check-mac .ensures .same))
+    (c .finished .ensures)
+
+pub generalized-recv-mac-spec : {M : Type 1} → statement M
+generalized-recv-mac-spec =
+    tie.close
+    (tie.spec (λ c κs. search needs) (λ c. search needs) returns opened-requires (λ c κs. search needs) check-mac-requires (λ c κs. search needs)
+    (λ c κs. search needs) returns-2)

@@ -1,0 +1,6 @@
+pub mod Answer
+pub mod Duplex
+pub mod Flags
+pub mod Loops
+pub mod Session
+pub mod Strobe
