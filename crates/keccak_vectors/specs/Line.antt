@@ -3,10 +3,7 @@ use mathlib.Core.Path.{_≡_}
 use mathlib.Core.List.{List}
 use Prim.Native.Nat.{ℕ, _+_, _*_, _/_, _%_, _<_}
 use lib.ListN.{getD}
-
--- the ASCII code of a digit: `0` is 48, and `a`, the digit of ten, stands 39 places after 48 + 10
-abbrev pub digitOf : ℕ → ℕ
-digitOf n = 48 + n + n / 10 * 39
+use Rattle.hex.specs.Digits.{digitOf}
 
 abbrev pub Bytes : List ℕ → Type 0
 Bytes s = (i : ℕ) → getD s i 0 < 256

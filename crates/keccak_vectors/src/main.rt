@@ -1,6 +1,6 @@
 // Permutes states: reads them one a line, in hexadecimal, and writes each one permuted in the same
 // form. It stops at the first line that is no state's.
-mod hex;
+mod line;
 
 use libc::STDIN_FILENO;
 use libc::STDOUT_FILENO;
@@ -13,7 +13,7 @@ fn answer_line() -> bool {
         return false;
     }
     // A cut line needs no test of its own: the zeros after it are neither digits nor a newline.
-    let parsed = hex::parse(&line);
+    let parsed = line::parse(&line);
     if !parsed.found {
         io::write_all(
             STDOUT_FILENO,
@@ -23,7 +23,7 @@ fn answer_line() -> bool {
     }
     let state = parsed.state;
     let permuted = keccak::permute(state);
-    let answer = hex::spelled(&permuted);
+    let answer = line::spelled(&permuted);
     io::write_all(STDOUT_FILENO, &answer)
 }
 

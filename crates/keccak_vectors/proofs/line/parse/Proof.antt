@@ -1,5 +1,5 @@
 -- `parse` meets its contract. The loop's invariant: the line has the digits of each byte stored.
-use mathlib.Core.Path.{_≡_, refl}
+use mathlib.Core.Path.{_≡_, refl, ap, sym, _∙_}
 use mathlib.Core.List.{List}
 use mathlib.Core.Logic.{⊎-elim}
 use Prim.Native.Nat.{ℕ, _+_, _*_, _/_, _%_, _≤_, _<_, _-_}
@@ -9,15 +9,24 @@ use borrow.Author.Count.{below-none, below-more}
 use borrow.Author.Tests.{ltb-true, ltb-false, eqb-true, eq-eqb}
 use lib.ListN.{length, getD, set}
 use lib.Seq.{getD-set-same, getD-set-other}
-use Rattle.keccak_vectors.specs.Line.{digitOf, SpellsAt}
-use Rattle.keccak_vectors.proofs.hex.parse.Statement.{statement}
-use Rattle.keccak_vectors.proofs.hex.parse.Tie as tie
+use Rattle.hex.specs.Digits.{digitOf, valueOf}
+use Rattle.hex.proofs.Digits.{value-of-digit, digit-of-value}
+use Rattle.keccak_vectors.specs.Line.{SpellsAt}
+use Rattle.keccak_vectors.proofs.line.parse.Statement.{statement}
+use Rattle.keccak_vectors.proofs.line.parse.Tie as tie
 
 abbrev Inv-loop : tie.InvT-loop
 Inv-loop line state₀ i₀ state i = (i ≤ 200) × (length state ≡ 200) × ((k : ℕ) → k < i → SpellsAt line state k)
 
 abbrev μ-loop : tie.MeasureT-loop
 μ-loop line state₀ i₀ state i = 200 - i
+
+-- What the number r of a byte says of the byte, and what the byte says of r.
+is-digit : (byte r : ℕ) → r ≡ valueOf byte → r < 16 → byte ≡ digitOf r
+is-digit byte r e h = digit-of-value byte (rw e at h) ∙ ap digitOf (sym e)
+
+is-value : (byte r n : ℕ) → r ≡ valueOf byte → n < 16 → byte ≡ digitOf n → r ≡ n
+is-value byte r n e h d = e ∙ ap valueOf d ∙ value-of-digit n h
 
 -- A byte is stored at i: the line still has the digits of each earlier byte.
 -- It has the byte's if it has those of its halves, high and low.
@@ -42,8 +51,8 @@ returns c =
       (λ s bytes spelt.
           let b = bytes i in
           let digits = spelt .0 i (omega arith) in
-          let high = c .before .before .before .value .ensures .1 (getD s i 0 / 16) (omega arith) (digits .0) in
-          let low = c .before .value2 .ensures .1 (getD s i 0 % 16) (omega arith) (digits .1) in
+          let high = is-value _ _ (getD s i 0 / 16) (c .before .before .before .value .ensures) (omega arith) (digits .0) in
+          let low = is-value _ _ (getD s i 0 % 16) (c .before .value2 .ensures) (omega arith) (digits .1) in
           absurd (⊎-elim (λ t. omega arith) (λ t. omega (arith, ltb-true)) (c .if1 .came))),
     )
 
@@ -59,7 +68,7 @@ loop-again c =
       omega arith,
       search needs,
       below-more _ (l .i) (λ k h. earlier line (l .state) (l .i) x y k h (l .inv .2 k h))
-          (here line (l .state) (l .i) x y (omega arith) small (high .ensures .0 (omega arith)) (low .ensures .0 small)),
+          (here line (l .state) (l .i) x y (omega arith) small (is-digit _ _ (high .ensures) (omega arith)) (is-digit _ _ (low .ensures) small)),
     )
 
 returns-2 : tie.Need-returns-2 Inv-loop μ-loop

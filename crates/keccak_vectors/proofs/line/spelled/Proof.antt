@@ -7,9 +7,10 @@ use borrow.Author.Needs.{needs}
 use borrow.Author.Count.{below-none, below-more}
 use lib.ListN.{length, getD, set, length-set}
 use lib.Seq.{getD-set-same, getD-set-other}
-use Rattle.keccak_vectors.specs.Line.{digitOf, SpellsAt}
-use Rattle.keccak_vectors.proofs.hex.spelled.Statement.{statement}
-use Rattle.keccak_vectors.proofs.hex.spelled.Tie as tie
+use Rattle.hex.specs.Digits.{digitOf}
+use Rattle.keccak_vectors.specs.Line.{SpellsAt}
+use Rattle.keccak_vectors.proofs.line.spelled.Statement.{statement}
+use Rattle.keccak_vectors.proofs.line.spelled.Tie as tie
 
 abbrev Inv-loop : tie.InvT-loop
 Inv-loop state line₀ i₀ line i = (i ≤ 200) × (length line ≡ 401) × ((k : ℕ) → k < i → SpellsAt line state k) × (getD line 400 0 ≡ 10)

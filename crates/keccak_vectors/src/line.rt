@@ -2,41 +2,8 @@
 ghost use mathlib.Core.Path.{_≡_};
 ghost use mathlib.Core.Bool.{true};
 ghost use mathlib.Core.List.{List};
-ghost use Prim.Native.Nat.{ℕ, _/_, _%_, _<_};
-ghost use Rattle.keccak_vectors.specs.Line.{digitOf, Bytes, Spells};
-
-// The digit of a number below 16.
-fn digit(n: u8) -> u8
-    requires { ⌜ n < 16 ⌝ }
-    ensures { λ r. ⌜ r ≡ digitOf n ⌝ }
-{
-    if n < 10 { b'0' + n } else { b'a' + (n - 10) }
-}
-
-// These two ask nothing of their callers: the halves of a byte are below 16.
-fn upper_digit(byte: u8) -> u8
-    ensures { λ r. ⌜ r ≡ digitOf (byte / 16) ⌝ }
-{
-    digit(byte / 16)
-}
-
-fn lower_digit(byte: u8) -> u8
-    ensures { λ r. ⌜ r ≡ digitOf (byte % 16) ⌝ }
-{
-    digit(byte % 16)
-}
-
-// The number that a digit stands for, or 16 where the byte is no digit.
-fn value(byte: u8) -> u8
-    ensures { λ r. ⌜ (r < 16 → byte ≡ digitOf r) ⌝ }
-    ensures { λ r. ⌜ ((n : ℕ) → n < 16 → byte ≡ digitOf n → r ≡ n) ⌝ }
-{
-    match byte {
-        b'0'..=b'9' => byte - b'0',
-        b'a'..=b'f' => byte - b'a' + 10,
-        _ => 16,
-    }
-}
+ghost use Prim.Native.Nat.{ℕ};
+ghost use Rattle.keccak_vectors.specs.Line.{Bytes, Spells};
 
 // What a line holds. Where no state is found, `state` is of no use.
 pub struct Parsed {
@@ -53,8 +20,8 @@ pub fn parse(line: &[u8; 401]) -> Parsed
     let mut i = 0;
     while i < 200 {
         let at = 2 * i;
-        let high = value(line[at]);
-        let low = value(line[at + 1]);
+        let high = hex::value(line[at]);
+        let low = hex::value(line[at + 1]);
         if high > 15 || low > 15 {
             return Parsed {
                 found: false,
@@ -78,8 +45,8 @@ pub fn spelled(state: &[u8; 200]) -> [u8; 401]
     let mut i = 0;
     while i < 200 {
         let at = 2 * i;
-        line[at] = upper_digit(state[i]);
-        line[at + 1] = lower_digit(state[i]);
+        line[at] = hex::upper_digit(state[i]);
+        line[at + 1] = hex::lower_digit(state[i]);
         i += 1;
     }
     line

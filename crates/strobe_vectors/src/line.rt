@@ -1,0 +1,70 @@
+// The line of a creation or a call: its answer, the session's parts, the lent bytes and the state.
+use crate::output;
+use strobe::Answer;
+use strobe::Direction;
+use strobe::Last;
+use strobe::Outcome;
+
+// Document 01's number of an answer, in two decimal digits.
+fn number(answer: Answer) -> [u8; 2] {
+    match answer {
+        Answer::Done => *b"00",
+        Answer::KeyFlag => *b"01",
+        Answer::NoOperation => *b"02",
+        Answer::NotTheLast => *b"03",
+        Answer::CutMac => *b"04",
+        Answer::TooLong => *b"05",
+        Answer::NoLevel => *b"06",
+        Answer::NotASession => *b"08",
+        Answer::MacUnequal => *b"09",
+        Answer::BadSaved => *b"10",
+        Answer::ShortBuffer => *b"11",
+    }
+}
+
+// Every position is below 256, which its type does not say.
+fn place(pos: usize) -> [u8; 2] {
+    output::digits((pos % 256) as u8)
+}
+
+fn end(direction: Direction) -> u8 {
+    match direction {
+        Direction::Neither => b'0',
+        Direction::Sender => b'1',
+        Direction::Receiver => b'2',
+    }
+}
+
+fn flags(last: Last) -> [u8; 2] {
+    match last {
+        Last::Nothing => *b"--",
+        Last::Op(f) => output::digits(f.0),
+    }
+}
+
+// The parts before the lent bytes, with the space after each.
+fn write_head(out: Outcome) {
+    let session = out.session;
+    let answer = out.answer;
+    let direction = session.direction;
+    let last = session.last;
+    output::write_text(&number(answer));
+    output::write_text(b" ");
+    output::write_text(&place(session.pos));
+    output::write_text(b" ");
+    output::write_text(&place(session.begin));
+    output::write_text(b" ");
+    output::write_text(&[end(direction), b' ']);
+    output::write_text(&flags(last));
+    output::write_text(b" ");
+}
+
+pub fn write(out: Outcome, lent: &[u8]) {
+    write_head(out);
+    output::write_hex(lent);
+    output::write_text(b" ");
+    let session = out.session;
+    let state = session.state;
+    output::write_hex(&state);
+    output::write_text(b"\n");
+}
