@@ -9,13 +9,13 @@ use borrow.Author.Tests.{ltb-true, leb-true}
 use native.Mathlib.Omega.{arith}
 use Rattle.strobe.specs.Duplex.{Sponge, Duplex, Rule, close, after, met, same}
 use Rattle.strobe.specs.Flags.{C, K, META-AD, has, operationOf, operation, isRecvMac, absorbing, zeroing, overwriting, ruleOf}
-use Rattle.strobe.specs.Loops.{at, duplexOf, Room, Fed, Ran, Formed, Opens, Finishes}
+use Rattle.strobe.specs.Loops.{at, duplexOf, Room, Fed, Ran, Formed, strobeOf}
 use Rattle.strobe.specs.Session.{rateOf, sponge, spongeOf, seen, held, given, freshAt, Is, Comes, Calls}
 use Rattle.strobe.specs.Strobe.{Strobe, disagrees, mixed, directed, forced, beginOp, opened, knownLast, wellFormed, refusal, verdict, worked, settled, call, unnamed, fresh}
 use Rattle.strobe.specs.Answer.{number}
 use Rattle.strobe.specs.declared.answer.Answer.{Answer}
 use Rattle.strobe.specs.declared.answer.Answer.the-variants.{Done, KeyFlag, NoOperation, NotTheLast, CutMac, TooLong, NoLevel, NotASession, MacUnequal, BadSaved, ShortBuffer}
-use Rattle.strobe.specs.declared.call.Opened.{Opened}
+use Rattle.strobe.specs.declared.opening.Thread.{Thread}
 use Rattle.strobe.specs.declared.duplex.Positions.{Positions}
 use Rattle.strobe.specs.declared.flags.Operation.{Operation}
 use Rattle.strobe.specs.declared.flags.Operation.the-variants.{Ratchet, RecvMac, Unknown}
@@ -68,9 +68,9 @@ well-is-formed s e =
       begun = leb-true _ _ (and-left (leb (s .begin) (s .pos)) (knownLast (s .last)) rest);
     }
 
-pub not-refused-formed : (s : Session) (f : Flags) (more : Bool) (n : ℕ) → refusal (rateOf (s .level)) (seen s) f more n ≡ 0 → Formed s
+pub passed-formed : (s : Session) (f : Flags) (more : Bool) (n : ℕ) (t : Answer) → number t ≡ refusal (rateOf (s .level)) (seen s) f more n → t ≡ Done → Formed s
 unfolding refusal
-not-refused-formed s f more n e = well-is-formed s (well _ _ e)
+passed-formed s f more n t e d = well-is-formed s (well _ _ (sym e ∙ ap number d))
 
 -- ---- there is a place for the next byte once an operation is opened
 
@@ -98,11 +98,12 @@ opened-room s f false h =
     (after-room sp absorbing d two (begun-room (h .below) (rate-small (s .level))))
 
 -- the same of what the code holds
-pub ready-room : (s : Session) (f : Flags) (more : Bool) (st : List ℕ) (ready : Opened) (rate : ℕ) → rate ≡ rateOf (s .level)
-    → Formed s → Opens s f more st ready → Room rate (ready .places .pos) (ready .places .begin)
+pub ready-room : (s : Session) (f : Flags) (more : Bool) (st : List ℕ) (ready : Thread) (rate : ℕ) → rate ≡ rateOf (s .level)
+    → Formed s → strobeOf st ready ≡ opened (sponge rate) (seen s) f more → Room rate (ready .places .pos) (ready .places .begin)
 ready-room s f more st ready rate er h o =
+    let o′ : strobeOf st ready ≡ opened (spongeOf (s .level)) (seen s) f more = rw er at o in
     rw er
-    (room-of (spongeOf (s .level)) _ (duplexOf st (ready .places)) (ap (λ (t : Strobe). t .duplex) (o .opens)) (opened-room s f more h))
+    (room-of (spongeOf (s .level)) _ (duplexOf st (ready .places)) (ap (λ (t : Strobe). t .duplex) o′) (opened-room s f more h))
 
 -- ---- the outcome of a call
 
@@ -134,25 +135,26 @@ module _ (s : Session) (f : Flags) (more : Bool) (bs : List ℕ) where
       let u = settled-not (spongeOf (s .level)) (number a) (seen s) f more bs (λ z. h (number-zero a z)) in
       record { outcome = record { answer = rw (← e, u); session = rw (← e, u) }; lent = rw (← e, u) }
 
-  -- opened, worked on and finished, it is the definition's call
+  -- opened and worked on, it is the definition's call
   pub finish : (rate : ℕ) → rate ≡ rateOf (s .level)
-      → (st : List ℕ) (ready : Opened) (st′ : List ℕ) (places : Positions) (a : Answer) (r : Outcome) (bs′ : List ℕ)
-      → refusal (rateOf (s .level)) (seen s) f more (length bs) ≡ 0
-      → Opens s f more st ready
+      → (st : List ℕ) (ready : Thread) (st′ : List ℕ) (places : Positions) (a : Answer) (bs′ : List ℕ)
+      → (t : Answer) → number t ≡ refusal (rateOf (s .level)) (seen s) f more (length bs) → t ≡ Done
+      → strobeOf st ready ≡ opened (sponge rate) (seen s) f more
       → Ran rate (ruleOf (operation f)) st (ready .places) bs st′ places bs′
       → number a ≡ verdict (sponge rate) (operation f) (duplexOf st (ready .places)) bs
-      → Finishes (s .level) st′ places ready a r
-      → Calls s f more bs r bs′
+      → Calls s f more bs (record { session = held (s .level) (record { duplex = duplexOf st′ places; direction = ready .direction; last = ready .last }); answer = a }) bs′
   unfolding call settled worked
-  finish rate er st ready st′ places a r bs′ go o w v e =
+  finish rate er st ready st′ places a bs′ t et ed o w v =
+      let go = sym et ∙ ap number ed in
+      let o′ : strobeOf st ready ≡ opened (spongeOf (s .level)) (seen s) f more = rw er at o in
       let w′ : Ran (rateOf (s .level)) (ruleOf (operation f)) st (ready .places) bs st′ places bs′ = rw er at w in
       let v′ : number a ≡ verdict (spongeOf (s .level)) (operation f) (duplexOf st (ready .places)) bs = rw er at v in
       record {
         outcome = record {
-          answer = rw (go, ← o .opens, e .answer) v′;
-          session = rw (go, ← o .opens, e .session) (ap (λ (d : Duplex). held (s .level) (record { duplex = d; direction = ready .direction; last = ready .last })) (w′ .fed));
+          answer = rw (go, ← o′) v′;
+          session = rw (go, ← o′) (ap (λ (d : Duplex). held (s .level) (record { duplex = d; direction = ready .direction; last = ready .last })) (w′ .fed));
         };
-        lent = rw (go, ← o .opens) (w′ .lent);
+        lent = rw (go, ← o′) (w′ .lent);
       }
 
 -- only a received MAC is judged

@@ -1,4 +1,5 @@
 pub mod Calls
+pub mod Cutting
 pub mod Data
 pub mod Loops
 pub mod Twenty

@@ -7,13 +7,10 @@ use lib.Dec.{eqb}
 use lib.ListN.{getD, set}
 use Rattle.strobe.specs.Duplex.{Duplex, Rule, after, out, met, same}
 use Rattle.strobe.specs.Flags.{AD, RATCHET, KEY, PRF, SEND-CLR, RECV-CLR, SEND-MAC, RECV-MAC, SEND-ENC, RECV-ENC, META-AD, META-RATCHET, META-KEY, META-PRF, META-SEND-CLR, META-RECV-CLR, META-SEND-MAC, META-RECV-MAC, META-SEND-ENC, META-RECV-ENC}
-use Rattle.strobe.specs.Session.{rateOf, sponge, spongeOf, seen, held}
-use Rattle.strobe.specs.Strobe.{Strobe, opened}
-use Rattle.strobe.specs.declared.answer.Answer.{Answer}
-use Rattle.strobe.specs.declared.call.Opened.{Opened}
+use Rattle.strobe.specs.Session.{rateOf, sponge}
+use Rattle.strobe.specs.Strobe.{Strobe}
+use Rattle.strobe.specs.declared.opening.Thread.{Thread}
 use Rattle.strobe.specs.declared.flags.Flags.{Flags}
-use Rattle.strobe.specs.declared.level.Level.{Level}
-use Rattle.strobe.specs.declared.session.Outcome.{Outcome}
 use Rattle.strobe.specs.declared.session.Session.{Session}
 use Rattle.strobe.specs.declared.duplex.Positions.{Positions}
 use Rattle.strobe.specs.declared.duplex.Checked.{Checked}
@@ -81,13 +78,9 @@ pub record Formed (s : Session) : Type 0 where
   pub below : s .pos < rateOf (s .level)
   pub begun : s .begin ≤ s .pos
 
--- what an opening leaves, together with the state, is the opened session
-abbrev pub openedOf : List ℕ → Opened → Strobe
-openedOf st o = record { duplex = duplexOf st (o .places); direction = o .direction; last = o .last }
+-- a session's parts, taken apart and put together again
+abbrev pub threadOf : Session → Thread
+threadOf s = record { places = record { pos = s .pos; begin = s .begin }; direction = s .direction; last = s .last }
 
-pub record Opens (s : Session) (f : Flags) (more : Bool) (st′ : List ℕ) (r : Opened) : Type 0 where
-  pub opens : openedOf st′ r ≡ opened (spongeOf (s .level)) (seen s) f more
-
-pub record Finishes (l : Level) (st : List ℕ) (p : Positions) (o : Opened) (a : Answer) (r : Outcome) : Type 0 where
-  pub session : r .session ≡ held l (record { duplex = duplexOf st p; direction = o .direction; last = o .last })
-  pub answer : r .answer ≡ a
+abbrev pub strobeOf : List ℕ → Thread → Strobe
+strobeOf st t = record { duplex = duplexOf st (t .places); direction = t .direction; last = t .last }

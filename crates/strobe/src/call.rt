@@ -4,26 +4,17 @@ ghost use mathlib.Core.Bool.{true, cond};
 ghost use lib.ListN.{replicate};
 ghost use Rattle.strobe.specs.Answer.{number, done, macUnequal};
 ghost use Rattle.strobe.specs.Flags.{operation, ruleOf};
-ghost use Rattle.strobe.specs.Loops.{among, takers, changers, macs, ratchets, Formed, Room, Fed, Ran, Opens, Finishes};
+ghost use Rattle.strobe.specs.Loops.{threadOf, among, takers, changers, macs, ratchets, Room, Fed, Ran};
 ghost use Rattle.strobe.specs.Session.{Calls};
 use crate::answer::Answer;
-use crate::direction::Direction;
 use crate::duplex;
 use crate::duplex::Positions;
 use crate::flags::Flags;
 use crate::flags::Operation;
-use crate::last::Last;
-use crate::level::Level;
 use crate::opening;
+use crate::opening::Thread;
 use crate::session::Outcome;
 use crate::session::Session;
-
-// What an opening leaves beside the state.
-pub struct Opened {
-    pub places: Positions,
-    pub direction: Direction,
-    pub last: Last,
-}
 
 // The rule of an operation that only takes bytes in: key overwrites, ad and clr absorb.
 fn take_in(
@@ -66,31 +57,31 @@ fn change(
     duplex::squeeze(st, places, rate, buf)
 }
 
+// Whether a received MAC was the state's.
+fn verdict(same: bool) -> Answer
+    ensures { λ r. ⌜ number r ≡ cond same done macUnequal ⌝ }
+{
+    if same {
+        Answer::Done
+    } else {
+        Answer::MacUnequal
+    }
+}
+
 impl Session {
-    // Opens the operation over the session's state, unless more of it comes.
-    fn opened(self, st: &mut [u8; 200], flags: Flags, more: bool) -> Opened
-        requires { ⌜ Formed self × (now st ≡ self .state) ⌝ }
-        ensures { λ r. ⌜ Opens self flags more (now (st .exit)) r ⌝ }
+    // What a session is beside its state and level.
+    fn thread(self) -> Thread
+        ensures { λ r. ⌜ r ≡ threadOf self ⌝ }
     {
         let direction = self.direction;
         let last = self.last;
-        let places = Positions {
-            pos: self.pos,
-            begin: self.begin,
-        };
-        if more {
-            return Opened {
-                places,
-                direction,
-                last,
-            };
-        }
-        let level = self.level;
-        let directed = direction.directed(flags);
-        Opened {
-            places: opening::begin_op(st, places, level.rate(), directed, flags),
-            direction: directed,
-            last: Last::Op(flags),
+        Thread {
+            places: Positions {
+                pos: self.pos,
+                begin: self.begin,
+            },
+            direction,
+            last,
         }
     }
 
@@ -107,10 +98,24 @@ impl Session {
             };
         };
         let level = self.level;
+        let rate = level.rate();
         let mut state = self.state;
-        let ready = self.opened(&mut state, flags, more);
-        let places = change(&mut state, ready.places, level.rate(), flags, buf);
-        finished(level, state, places, ready, Answer::Done)
+        let thread = opening::opened(&mut state, self.thread(), rate, flags, more);
+        let places = change(&mut state, thread.places, rate, flags, buf);
+        let direction = thread.direction;
+        let last = thread.last;
+        let session = Session {
+            state,
+            level,
+            pos: places.pos,
+            begin: places.begin,
+            direction,
+            last,
+        };
+        Outcome {
+            session,
+            answer: Answer::Done,
+        }
     }
 
     // An operation that only takes the lent bytes in.
@@ -126,10 +131,24 @@ impl Session {
             };
         };
         let level = self.level;
+        let rate = level.rate();
         let mut state = self.state;
-        let ready = self.opened(&mut state, flags, more);
-        let places = take_in(&mut state, ready.places, level.rate(), flags, bytes);
-        finished(level, state, places, ready, Answer::Done)
+        let thread = opening::opened(&mut state, self.thread(), rate, flags, more);
+        let places = take_in(&mut state, thread.places, rate, flags, bytes);
+        let direction = thread.direction;
+        let last = thread.last;
+        let session = Session {
+            state,
+            level,
+            pos: places.pos,
+            begin: places.begin,
+            direction,
+            last,
+        };
+        Outcome {
+            session,
+            answer: Answer::Done,
+        }
     }
 
     // A received MAC: one that is not the state's is taken in too.
@@ -145,10 +164,24 @@ impl Session {
             };
         };
         let level = self.level;
+        let rate = level.rate();
         let mut state = self.state;
-        let ready = self.opened(&mut state, flags, more);
-        let checked = duplex::check_mac(&mut state, ready.places, level.rate(), mac);
-        finished(level, state, checked.places, ready, verdict(checked.same))
+        let thread = opening::opened(&mut state, self.thread(), rate, flags, more);
+        let checked = duplex::check_mac(&mut state, thread.places, rate, mac);
+        let direction = thread.direction;
+        let last = thread.last;
+        let session = Session {
+            state,
+            level,
+            pos: checked.places.pos,
+            begin: checked.places.begin,
+            direction,
+            last,
+        };
+        Outcome {
+            session,
+            answer: verdict(checked.same),
+        }
     }
 
     // A ratchet: a count, no bytes.
@@ -164,10 +197,24 @@ impl Session {
             };
         };
         let level = self.level;
+        let rate = level.rate();
         let mut state = self.state;
-        let ready = self.opened(&mut state, flags, more);
-        let places = duplex::zero_state(&mut state, ready.places, level.rate(), n);
-        finished(level, state, places, ready, Answer::Done)
+        let thread = opening::opened(&mut state, self.thread(), rate, flags, more);
+        let places = duplex::zero_state(&mut state, thread.places, rate, n);
+        let direction = thread.direction;
+        let last = thread.last;
+        let session = Session {
+            state,
+            level,
+            pos: places.pos,
+            begin: places.begin,
+            direction,
+            last,
+        };
+        Outcome {
+            session,
+            answer: Answer::Done,
+        }
     }
 
     // The call by number: the operation is the flag byte's. A ratchet's count is the buffer's length.
@@ -191,41 +238,5 @@ impl Session {
                 answer: self.tested(flags, more, buf.len()),
             },
         }
-    }
-}
-
-// Whether a received MAC was the state's.
-fn verdict(same: bool) -> Answer
-    ensures { λ r. ⌜ number r ≡ cond same done macUnequal ⌝ }
-{
-    if same {
-        Answer::Done
-    } else {
-        Answer::MacUnequal
-    }
-}
-
-// The session behind the work.
-fn finished(
-    level: Level,
-    state: [u8; 200],
-    places: Positions,
-    ready: Opened,
-    answer: Answer,
-) -> Outcome
-    ensures { λ r. ⌜ Finishes level state places ready answer r ⌝ }
-{
-    let direction = ready.direction;
-    let last = ready.last;
-    Outcome {
-        session: Session {
-            state,
-            level,
-            pos: places.pos,
-            begin: places.begin,
-            direction,
-            last,
-        },
-        answer,
     }
 }

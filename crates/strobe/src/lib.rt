@@ -9,6 +9,7 @@ mod level;
 mod named;
 mod opening;
 mod parts;
+mod pieces;
 mod session;
 mod tests;
 

@@ -1,13 +1,21 @@
 // Opening an operation, over a lent state.
 ghost use mathlib.Core.Path.{_≡_};
 ghost use Prim.Native.Nat.{_≤_, _<_};
-ghost use Rattle.strobe.specs.Loops.{duplexOf, Room};
+ghost use Rattle.strobe.specs.Loops.{duplexOf, strobeOf, Room};
 ghost use Rattle.strobe.specs.Session.{sponge};
-ghost use Rattle.strobe.specs.Strobe.{forced, beginOp};
+ghost use Rattle.strobe.specs.Strobe.{forced, beginOp, opened};
 use crate::direction::Direction;
 use crate::duplex;
 use crate::duplex::Positions;
 use crate::flags::Flags;
+use crate::last::Last;
+
+// What a session is beside its state and level.
+pub struct Thread {
+    pub places: Positions,
+    pub direction: Direction,
+    pub last: Last,
+}
 
 // Closes the block where C is set and the block is begun.
 fn forced(st: &mut [u8; 200], places: Positions, rate: usize, flags: Flags) -> Positions
@@ -42,4 +50,21 @@ pub fn begin_op(
     let once = duplex::absorb_byte(st, begun, rate, places.begin as u8);
     let twice = duplex::absorb_byte(st, once, rate, direction.mixed(flags));
     forced(st, twice, rate, flags)
+}
+
+// Opens the operation, unless more of it comes.
+pub fn opened(st: &mut [u8; 200], thread: Thread, rate: usize, flags: Flags, more: bool) -> Thread
+    requires { ⌜ (thread .places .pos < rate) × (thread .places .begin ≤ thread .places .pos) × (rate ≤ 166) ⌝ }
+    ensures { λ r. ⌜ strobeOf (now (st .exit)) r ≡ opened (sponge rate) (strobeOf (now (st .entry)) thread) flags more ⌝ }
+{
+    if more {
+        return thread;
+    }
+    let was = thread.direction;
+    let direction = was.directed(flags);
+    Thread {
+        places: begin_op(st, thread.places, rate, direction, flags),
+        direction,
+        last: Last::Op(flags),
+    }
 }

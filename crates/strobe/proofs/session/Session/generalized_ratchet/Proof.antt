@@ -1,12 +1,11 @@
 -- `generalized_ratchet`: the refusal, or the opening, the zeros, and the session behind them. Assumes nothing.
 use Prim.Native.Nat.{ℕ}
-use mathlib.Core.Path.{refl, sym, ap, _∙_}
+use mathlib.Core.Path.{refl, ap}
 use mathlib.Core.List.{[], _∷_}
 use lib.ListN.{replicate, length-replicate}
 use borrow.Author.Needs.{needs}
 use types.Run.{miss}
-use Rattle.strobe.specs.Answer.{number}
-use Rattle.strobe.proofs.Calls.{not-refused-formed, ready-room, refused, finish, verdict-done, feeding}
+use Rattle.strobe.proofs.Calls.{rate-small, passed-formed, ready-room, refused, finish, verdict-done, feeding}
 use Rattle.strobe.proofs.Twenty.{ratchets-are}
 use Rattle.strobe.specs.Flags.{isRecvMac, zeroing}
 use Rattle.strobe.specs.declared.answer.Answer.the-variants.{Done}
@@ -21,25 +20,25 @@ returns c =
 
 opened-requires : tie.Need-opened-requires
 opened-requires c κs =
-    let o = c .before .before in
-    (not-refused-formed _ _ _ _ (sym (o .before .before .tested .ensures) ∙ ap number (o .enum-told .given .1)), refl)
+    let o = c .before .before .before .before in
+    let formed = passed-formed (o .before .before .before .args .self) (o .before .before .before .args .flags) (o .before .before .before .args .more) _ (o .before .before .tested .result) (o .before .before .tested .ensures) (o .enum-told .given .1) in
+    rw (c .thread .ensures, c .before .before .before .rate .ensures) ((formed .below, formed .begun, rate-small (o .before .before .before .args .self .level)))
 
 zero-state-requires : tie.Need-zero-state-requires
 zero-state-requires c κs =
-    let o = c .before .before in
-    ready-room _ _ _ _ (o .opened .result) _ (c .rate .ensures) (not-refused-formed _ _ _ _ (sym (o .before .before .before .before .before .tested .ensures) ∙ ap number (o .before .before .before .enum-told .given .1))) (o .opened .ensures)
+    let o = c .before .before .before .before .before .before in
+    ready-room (o .before .before .before .args .self) _ _ _ (c .before .opened .result) _ (c .before .before .before .before .before .rate .ensures) (passed-formed (o .before .before .before .args .self) (o .before .before .before .args .flags) (o .before .before .before .args .more) _ (o .before .before .tested .result) (o .before .before .tested .ensures) (o .enum-told .given .1)) (rw (c .before .before .thread .ensures) at (c .before .opened .ensures))
 
 returns-2 : tie.Need-returns-2
 returns-2 c =
-    let o = c .before .before .before .before in
-    finish (o .before .before .before .before .before .before .args .self) (o .before .before .before .before .before .before .args .flags) (o .before .before .before .before .before .before .args .more) (replicate (o .before .before .before .before .before .before .args .n) 0) _ (c .before .before .rate .ensures) _ (o .opened .result) _ _ Done _ _
-    (rw (length-replicate {A = ℕ} (o .before .before .before .before .before .before .args .n) 0) (sym (o .before .before .before .before .before .tested .ensures) ∙ ap number (o .before .before .before .enum-told .given .1))) (o .opened .ensures)
-    (rw (ratchets-are (o .before .before .before .before .before .before .args .flags) (o .before .before .before .before .before .before .pre)) (feeding _ zeroing _ _ _ _ _ (λ x b. refl) (c .before .zero-state .ensures)))
-    (verdict-done _ _ _ _ (ap isRecvMac (ratchets-are (o .before .before .before .before .before .before .args .flags) (o .before .before .before .before .before .before .pre))))
-    (c .finished .ensures)
+    let o = c .before .before .before .before .before .before .before in
+    finish (o .before .before .before .args .self) (o .before .before .before .args .flags) (o .before .before .before .args .more) (replicate (o .before .before .before .args .n) 0) _ (c .before .before .before .before .before .before .rate .ensures) _ (c .before .before .opened .result) _ _ Done _
+    (o .before .before .tested .result) (rw (length-replicate {A = ℕ} (o .before .before .before .args .n) 0) (o .before .before .tested .ensures)) (o .enum-told .given .1) (rw (c .before .before .before .thread .ensures) at (c .before .before .opened .ensures))
+    (rw (ratchets-are (o .before .before .before .args .flags) (o .before .before .before .pre)) (feeding _ zeroing _ _ _ _ _ (λ x b. refl) (c .zero-state .ensures)))
+    (verdict-done _ _ _ _ (ap isRecvMac (ratchets-are (o .before .before .before .args .flags) (o .before .before .before .pre))))
 
 pub generalized-ratchet-spec : {M : Type 1} → statement M
 generalized-ratchet-spec =
     tie.close
-    (tie.spec (λ c κs. search needs) (λ c. search needs) returns opened-requires (λ c κs. search needs) zero-state-requires
-    (λ c κs. search needs) returns-2)
+    (tie.spec (λ c κs. search needs) (λ c. search needs) returns (λ c κs. search needs) (λ c κs. search needs) opened-requires
+    zero-state-requires returns-2)

@@ -1,10 +1,9 @@
 -- `generalized_recv_mac`: the refusal, or the opening, the comparison, and the session behind it. Assumes nothing.
-use mathlib.Core.Path.{refl, sym, ap, _∙_}
+use mathlib.Core.Path.{refl}
 use mathlib.Core.List.{[], _∷_}
 use borrow.Author.Needs.{needs}
 use types.Run.{miss}
-use Rattle.strobe.specs.Answer.{number}
-use Rattle.strobe.proofs.Calls.{not-refused-formed, ready-room, refused, finish, verdict-mac, feeding}
+use Rattle.strobe.proofs.Calls.{rate-small, passed-formed, ready-room, refused, finish, verdict-mac, feeding}
 use Rattle.strobe.proofs.Twenty.{macs-are}
 use Rattle.strobe.specs.Flags.{overwriting}
 use Rattle.strobe.proofs.session.Session.generalized_recv_mac.Statement.{statement}
@@ -18,25 +17,25 @@ returns c =
 
 opened-requires : tie.Need-opened-requires
 opened-requires c κs =
-    let o = c .before .before in
-    (not-refused-formed _ _ _ _ (sym (o .before .before .tested .ensures) ∙ ap number (o .enum-told .given .1)), refl)
+    let o = c .before .before .before .before in
+    let formed = passed-formed (o .before .before .before .before .args .self) (o .before .before .before .before .args .flags) (o .before .before .before .before .args .more) _ (o .before .before .tested .result) (o .before .before .tested .ensures) (o .enum-told .given .1) in
+    rw (c .thread .ensures, c .before .before .before .rate .ensures) ((formed .below, formed .begun, rate-small (o .before .before .before .before .args .self .level)))
 
 check-mac-requires : tie.Need-check-mac-requires
 check-mac-requires c κs =
-    let o = c .before .before in
-    ready-room _ _ _ _ (o .opened .result) _ (c .rate .ensures) (not-refused-formed _ _ _ _ (sym (o .before .before .before .before .before .tested .ensures) ∙ ap number (o .before .before .before .enum-told .given .1))) (o .opened .ensures)
+    let o = c .before .before .before .before .before .before in
+    ready-room (o .before .before .before .before .args .self) _ _ _ (c .before .opened .result) _ (c .before .before .before .before .before .rate .ensures) (passed-formed (o .before .before .before .before .args .self) (o .before .before .before .before .args .flags) (o .before .before .before .before .args .more) _ (o .before .before .tested .result) (o .before .before .tested .ensures) (o .enum-told .given .1)) (rw (c .before .before .thread .ensures) at (c .before .opened .ensures))
 
 returns-2 : tie.Need-returns-2
 returns-2 c =
-    let o = c .before .before .before .before .before in
-    finish (o .before .before .before .before .before .before .before .args .self) (o .before .before .before .before .before .before .before .args .flags) (o .before .before .before .before .before .before .before .args .more) _ _ (c .before .before .before .rate .ensures) _ (o .opened .result) _ _ _ _ _
-    ((sym (o .before .before .before .before .before .tested .ensures) ∙ ap number (o .before .before .before .enum-told .given .1))) (o .opened .ensures)
-    (rw (macs-are (o .before .before .before .before .before .before .before .args .flags) (o .before .before .before .before .before .before .before .pre)) (feeding _ overwriting _ _ _ _ _ (λ x b. refl) (c .before .before .check-mac .ensures .fed)))
-    (verdict-mac _ _ _ _ _ _ (macs-are (o .before .before .before .before .before .before .before .args .flags) (o .before .before .before .before .before .before .before .pre)) (c .before .verdict .ensures) (c .before .before .check-mac .ensures .same))
-    (c .finished .ensures)
+    let o = c .before .before .before .before .before .before .before .before in
+    finish (o .before .before .before .before .args .self) (o .before .before .before .before .args .flags) (o .before .before .before .before .args .more) _ _ (c .before .before .before .before .before .before .before .rate .ensures) _ (c .before .before .before .opened .result) _ _ _ _
+    (o .before .before .tested .result) (o .before .before .tested .ensures) (o .enum-told .given .1) (rw (c .before .before .before .before .thread .ensures) at (c .before .before .before .opened .ensures))
+    (rw (macs-are (o .before .before .before .before .args .flags) (o .before .before .before .before .pre)) (feeding _ overwriting _ _ _ _ _ (λ x b. refl) (c .before .check-mac .ensures .fed)))
+    (verdict-mac _ _ _ _ _ _ (macs-are (o .before .before .before .before .args .flags) (o .before .before .before .before .pre)) (c .verdict .ensures) (c .before .check-mac .ensures .same))
 
 pub generalized-recv-mac-spec : {M : Type 1} → statement M
 generalized-recv-mac-spec =
     tie.close
-    (tie.spec (λ c κs. search needs) (λ c. search needs) returns opened-requires (λ c κs. search needs) check-mac-requires (λ c κs. search needs)
+    (tie.spec (λ c κs. search needs) (λ c. search needs) returns (λ c κs. search needs) (λ c κs. search needs) opened-requires check-mac-requires
     (λ c κs. search needs) returns-2)

@@ -1,10 +1,8 @@
 -- `operate`: the refusal, or the opening, the change of the lent bytes, and the session behind them. Assumes nothing.
-use mathlib.Core.Path.{refl, sym, ap, _∙_}
 use mathlib.Core.List.{[], _∷_}
 use borrow.Author.Needs.{needs}
 use types.Run.{miss}
-use Rattle.strobe.specs.Answer.{number}
-use Rattle.strobe.proofs.Calls.{not-refused-formed, ready-room, refused, finish, verdict-done}
+use Rattle.strobe.proofs.Calls.{rate-small, passed-formed, ready-room, refused, finish, verdict-done}
 use Rattle.strobe.proofs.Twenty.{changers-no-mac}
 use Rattle.strobe.specs.declared.answer.Answer.the-variants.{Done}
 use Rattle.strobe.proofs.session.Session.operate.Statement.{statement}
@@ -18,25 +16,25 @@ returns c =
 
 opened-requires : tie.Need-opened-requires
 opened-requires c κs =
-    let o = c .before .before in
-    (not-refused-formed _ _ _ _ (sym (o .before .before .tested .ensures) ∙ ap number (o .enum-told .given .1)), refl)
+    let o = c .before .before .before .before in
+    let formed = passed-formed (o .before .before .before .before .args .self) (o .before .before .before .before .args .flags) (o .before .before .before .before .args .more) _ (o .before .before .tested .result) (o .before .before .tested .ensures) (o .enum-told .given .1) in
+    rw (c .thread .ensures, c .before .before .before .rate .ensures) ((formed .below, formed .begun, rate-small (o .before .before .before .before .args .self .level)))
 
 change-requires : tie.Need-change-requires
 change-requires c κs =
-    let o = c .before .before .before in
-    (ready-room _ _ _ _ (o .opened .result) _ (c .before .rate .ensures) (not-refused-formed _ _ _ _ (sym (o .before .before .before .before .before .tested .ensures) ∙ ap number (o .before .before .before .enum-told .given .1))) (o .opened .ensures), o .before .before .before .before .before .before .before .pre)
+    let o = c .before .before .before .before .before .before .before in
+    (ready-room (o .before .before .before .before .args .self) _ _ _ (c .before .before .opened .result) _ (c .before .before .before .before .before .before .rate .ensures) (passed-formed (o .before .before .before .before .args .self) (o .before .before .before .before .args .flags) (o .before .before .before .before .args .more) _ (o .before .before .tested .result) (o .before .before .tested .ensures) (o .enum-told .given .1)) (rw (c .before .before .before .thread .ensures) at (c .before .before .opened .ensures)), o .before .before .before .before .pre)
 
 returns-2 : tie.Need-returns-2
 returns-2 c =
-    let o = c .before .before .before .before .before .before .before in
-    finish (o .before .before .before .before .before .before .before .args .self) (o .before .before .before .before .before .before .before .args .flags) (o .before .before .before .before .before .before .before .args .more) _ _ (c .before .before .before .before .before .rate .ensures) _ (o .opened .result) _ _ Done _ _
-    ((sym (o .before .before .before .before .before .tested .ensures) ∙ ap number (o .before .before .before .enum-told .given .1))) (o .opened .ensures)
-    (c .before .before .before .change .ensures)
-    (verdict-done _ _ _ _ (changers-no-mac (o .before .before .before .before .before .before .before .args .flags) (o .before .before .before .before .before .before .before .pre)))
-    (c .finished .ensures)
+    let o = c .before .before .before .before .before .before .before .before .before .before in
+    finish (o .before .before .before .before .args .self) (o .before .before .before .before .args .flags) (o .before .before .before .before .args .more) _ _ (c .before .before .before .before .before .before .before .before .before .rate .ensures) _ (c .before .before .before .before .before .opened .result) _ _ Done _
+    (o .before .before .tested .result) (o .before .before .tested .ensures) (o .enum-told .given .1) (rw (c .before .before .before .before .before .before .thread .ensures) at (c .before .before .before .before .before .opened .ensures))
+    (c .before .before .change .ensures)
+    (verdict-done _ _ _ _ (changers-no-mac (o .before .before .before .before .args .flags) (o .before .before .before .before .pre)))
 
 pub operate-spec : {M : Type 1} → statement M
 operate-spec =
     tie.close
-    (tie.spec (λ c κs. search needs) (λ c. search needs) returns opened-requires (λ c κs. search needs) change-requires (λ c κs. search needs)
+    (tie.spec (λ c κs. search needs) (λ c. search needs) returns (λ c κs. search needs) (λ c κs. search needs) opened-requires change-requires
     (λ c. search needs) returns-2)

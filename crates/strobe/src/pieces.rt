@@ -1,0 +1,62 @@
+// A call in pieces, for a buffer that is to go through a session bit by bit.
+ghost use mathlib.Core.Path.{_≡_};
+ghost use Rattle.strobe.specs.Answer.{number};
+ghost use Rattle.strobe.specs.Pieces.{refuses, pieceSize, callInPieces};
+ghost use Rattle.strobe.specs.Session.{spongeOf, seen, Comes};
+use crate::answer::Answer;
+use crate::flags::Flags;
+use crate::session::Outcome;
+use crate::session::Session;
+
+impl Answer {
+    // Whether nothing was done. A wrong MAC is no refusal.
+    pub fn refuses(self) -> bool
+        ensures { λ r. ⌜ r ≡ refuses (number self) ⌝ }
+    {
+        match self {
+            Answer::Done => false,
+            Answer::KeyFlag => true,
+            Answer::NoOperation => true,
+            Answer::NotTheLast => true,
+            Answer::CutMac => true,
+            Answer::TooLong => true,
+            Answer::NoLevel => true,
+            Answer::NotASession => true,
+            Answer::MacUnequal => false,
+            Answer::BadSaved => true,
+            Answer::ShortBuffer => true,
+        }
+    }
+}
+
+// A size of 0 is no cut.
+fn piece_size(size: usize, whole: usize) -> usize
+    ensures { λ r. ⌜ r ≡ pieceSize size whole ⌝ }
+{
+    if size == 0 { whole } else { size }
+}
+
+impl Session {
+    // The call by number in pieces of `size` bytes, the last one shorter. It ends at the first refusal.
+    pub fn call_in_pieces(self, flags: Flags, more: bool, size: usize, buf: &mut [u8]) -> Outcome
+        ensures { λ r. ⌜ Comes (self .level) (callInPieces (spongeOf (self .level)) (seen self) flags more size (now (buf .entry))) r (now (buf .exit)) ⌝ }
+    {
+        let step = piece_size(size, buf.len());
+        let mut session = self;
+        let mut on = more;
+        let mut a: usize = 0;
+        while step < buf.len() - a {
+            let e = a + step;
+            let piece = session.call(flags, on, &mut buf[a..e]);
+            let answer = piece.answer;
+            if answer.refuses() {
+                return piece;
+            }
+            let behind = piece.session;
+            session = behind;
+            on = true;
+            a = e;
+        }
+        session.call(flags, on, &mut buf[a..])
+    }
+}
