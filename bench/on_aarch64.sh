@@ -1,5 +1,5 @@
 # shellcheck shell=bash
-# Building x86-64 programs on an Arm machine, and running and counting them under the kit's emulator. bench/permutation reads this file.
+# Building x86-64 programs on an Arm machine, and running and counting them under the kit's emulator. bench/common.sh reads this file.
 # Debian's packages are unpacked and not installed, since one of them is for the other architecture.
 [ -n "${BENCH_PACKAGES:-}" ] || fail "set BENCH_PACKAGES to a folder with these Debian packages unpacked (apt-get download, dpkg -x): rustc-web, the libstd-rust-web-* and libllvm* that it depends on, libstd-rust-web-dev:amd64, librust-keccak-dev"
 
@@ -18,8 +18,8 @@ check_tools() {
     compgen -G "$BENCH_PACKAGES/usr/lib/*/libLLVM*" > /dev/null || fail "$BENCH_PACKAGES/usr/lib/*/libLLVM* is missing: unpack the libllvm* of rustc-web there"
 }
 
-# The folder of the crate's source, or nothing.
-crate_folder() {
+# The folder of keccak's source, or nothing.
+keccak_folder() {
     local lib
     lib=$(compgen -G "$BENCH_PACKAGES/usr/share/cargo/registry/keccak-[0-9]*/src/lib.rs" || true)
     echo "${lib%/src/lib.rs}"
@@ -33,16 +33,14 @@ compile() {
         --sysroot "$BENCH_PACKAGES/usr" --target x86_64-unknown-linux-gnu "$@"
 }
 
-# build_program PROGRAM RUSTC-WORDS..: linked by hand, since there is no cc for x86-64
+# build_program PROGRAM RUSTC-WORDS..: linked by hand with all that was built before, since there is no cc for x86-64
 build_program() {
-    local built=$1 libraries=(target/staticlib/libbench.a) keccak=target/bench/libkeccak.rlib
+    local built=$1 libraries
     shift
-    if [ -f "$keccak" ]; then
-        libraries+=("$keccak")
-    fi
+    mapfile -t libraries < <(compgen -G 'target/bench/lib*.rlib')
     compile "$@" --emit obj -o "$built.o" \
         && "$tools/ld.lld" -pie -z now --gc-sections --unresolved-symbols=ignore-in-shared-libs -dynamic-linker "$loader" -o "$built" \
-            "$libc/Scrt1.o" "$libc/crti.o" "$built.o" "${libraries[@]}" \
+            "$libc/Scrt1.o" "$libc/crti.o" "$built.o" target/staticlib/libbench.a "${libraries[@]}" \
             "$rust_x86_64"/libcore-*.rlib "$rust_x86_64"/libcompiler_builtins-*.rlib \
             "$libc/libc.so.6" "$libc/libc_nonshared.a" "$libc/crtn.o"
 }

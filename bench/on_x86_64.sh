@@ -1,5 +1,5 @@
 # shellcheck shell=bash
-# Building, running and counting on an x86-64 machine. bench/permutation reads this file.
+# Building, running and counting on an x86-64 machine. bench/common.sh reads this file.
 
 check_tools() {
     need rustc "install Rust"
@@ -7,8 +7,8 @@ check_tools() {
     need valgrind "apt-get install valgrind"
 }
 
-# The folder of the crate's source, as the installed package names it, or nothing.
-crate_folder() {
+# The folder of keccak's source, as the installed package names it, or nothing.
+keccak_folder() {
     local lib
     lib=$(dpkg-query -L librust-keccak-dev 2> /dev/null | grep '/keccak-[0-9.]*/src/lib\.rs$' || true)
     if [ -f "$lib" ]; then

@@ -1,21 +1,8 @@
 // permutation SIDE TIMES: permutes one start state TIMES times with the code of SIDE, and writes the 200 bytes.
-// No std: on an Arm machine only a C library for x86-64 is at hand.
 #![no_std]
 #![no_main]
 
-use core::ffi::CStr;
-
-#[panic_handler]
-fn panic(_: &core::panic::PanicInfo) -> ! {
-    unsafe { abort() }
-}
-
-// the C library
-extern "C" {
-    fn abort() -> !;
-    fn atoi(text: *const i8) -> i32;
-    fn write(file: i32, bytes: *const u8, count: usize) -> isize;
-}
+mod c_library;
 
 // target/staticlib/libbench.a
 extern "C" {
@@ -81,16 +68,16 @@ mod with_crate {
 
 #[no_mangle]
 pub extern "C" fn main(argc: i32, argv: *const *const i8) -> i32 {
-    if argc != 3 {
+    let words = c_library::Words::new(argc, argv);
+    if words.count() != 3 {
         return 2;
     }
-    let side = unsafe { CStr::from_ptr(*argv.add(1)) };
-    let times = unsafe { atoi(*argv.add(2)) } as usize;
+    let times = words.number(2);
     let mut state = State([0; 200]);
     for (i, byte) in state.0.iter_mut().enumerate() {
         *byte = (7 * i + 3) as u8;
     }
-    match side.to_bytes() {
+    match words.word(1) {
         b"ours" => ours(&mut state, times),
         #[cfg(with_crate)]
         b"crate_on_lanes" => with_crate::on_lanes(&mut state, times),
@@ -98,6 +85,5 @@ pub extern "C" fn main(argc: i32, argv: *const *const i8) -> i32 {
         b"crate_on_bytes" => with_crate::on_bytes(&mut state, times),
         _ => return 2,
     }
-    let written = unsafe { write(1, state.0.as_ptr(), 200) };
-    (written != 200) as i32
+    !c_library::write_all(&state.0) as i32
 }

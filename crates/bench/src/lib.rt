@@ -1,4 +1,6 @@
-// Keccak-f[1600] on a lent state, exported so that a Rust program can count its instructions.
+// What the benches count, exported so that a Rust program can call it: here the permutation, and in `session` the rows of the session bench.
+mod session;
+
 ghost use mathlib.Core.Path.{_≡_};
 ghost use Rattle.fips202.specs.Bytes.{keccakF1600};
 

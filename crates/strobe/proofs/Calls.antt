@@ -5,11 +5,11 @@ use mathlib.Core.List.{List, [], _∷_}
 use mathlib.Core.Bool.{Bool, true, false, not, cond, _&&_}
 use lib.Dec.{eqb, ltb, leb, lit≤}
 use lib.ListN.{length, replicate, length-replicate}
-use borrow.Author.Tests.{ltb-true, leb-true}
+use borrow.Author.Tests.{lt-ltb, ltb-true, le-leb, leb-true}
 use native.Mathlib.Omega.{arith}
 use Rattle.strobe.specs.Duplex.{Sponge, Duplex, Rule, close, after, met, same}
 use Rattle.strobe.specs.Flags.{C, K, META-AD, has, operationOf, operation, isRecvMac, absorbing, zeroing, overwriting, ruleOf}
-use Rattle.strobe.specs.Loops.{at, duplexOf, Room, Fed, Ran, Formed, strobeOf}
+use Rattle.strobe.specs.Loops.{at, duplexOf, Room, Fed, Ran, strobeOf}
 use Rattle.strobe.specs.Session.{rateOf, sponge, spongeOf, seen, held, given, freshAt, Is, Comes, Calls}
 use Rattle.strobe.specs.Strobe.{Strobe, disagrees, mixed, directed, forced, beginOp, opened, knownLast, wellFormed, refusal, verdict, worked, settled, call, unnamed, fresh}
 use Rattle.strobe.specs.Answer.{number}
@@ -26,7 +26,7 @@ use Rattle.strobe.specs.declared.level.Level.the-variants.{B128, B256}
 use Rattle.strobe.specs.declared.direction.Direction.{Direction}
 use Rattle.strobe.specs.declared.direction.Direction.the-variants.{Neither, Sender, Receiver}
 use Rattle.strobe.specs.declared.session.Session.{Session}
-use Rattle.strobe.proofs.Data.{room-of, after-room, out-kept, after-zeros}
+use Rattle.strobe.proofs.Data.{Ordered, room-of, after-room, out-kept, after-zeros}
 
 pub rate-small : (l : Level) → rateOf l ≤ 166
 rate-small B128 = lit≤ tt
@@ -59,18 +59,27 @@ well : (w : Bool) (n : ℕ) → cond (not w) 8 n ≡ 0 → w ≡ true
 well true n e = refl
 well false n e = absurd (omega arith)
 
-pub well-is-formed : (s : Session) → wellFormed (rateOf (s .level)) (seen s) ≡ true → Formed s
-unfolding wellFormed
-well-is-formed s e =
-    let rest = and-right (ltb (s .pos) (rateOf (s .level))) _ e in
-    record {
-      below = ltb-true _ _ (and-left (ltb (s .pos) (rateOf (s .level))) (leb (s .begin) (s .pos) && knownLast (s .last)) e);
-      begun = leb-true _ _ (and-left (leb (s .begin) (s .pos)) (knownLast (s .last)) rest);
-    }
+module _ (rate : ℕ) (s : Strobe) where
+  pub well-ordered : wellFormed rate s ≡ true → Ordered rate (s .duplex)
+  unfolding wellFormed
+  well-ordered e =
+      let rest = and-right (ltb (s .duplex .pos) rate) _ e in
+      record {
+        below = ltb-true _ _ (and-left (ltb (s .duplex .pos) rate) (leb (s .duplex .begin) (s .duplex .pos) && knownLast (s .last)) e);
+        begun = leb-true _ _ (and-left (leb (s .duplex .begin) (s .duplex .pos)) (knownLast (s .last)) rest);
+      }
 
-pub passed-formed : (s : Session) (f : Flags) (more : Bool) (n : ℕ) (t : Answer) → number t ≡ refusal (rateOf (s .level)) (seen s) f more n → t ≡ Done → Formed s
+  pub well-known : wellFormed rate s ≡ true → knownLast (s .last) ≡ true
+  unfolding wellFormed
+  well-known e = and-right (leb (s .duplex .begin) (s .duplex .pos)) _ (and-right (ltb (s .duplex .pos) rate) _ e)
+
+  pub ordered-well : Ordered rate (s .duplex) → knownLast (s .last) ≡ true → wellFormed rate s ≡ true
+  unfolding wellFormed
+  ordered-well h e = rw (lt-ltb (s .duplex .pos) rate (h .below), le-leb (s .duplex .begin) (s .duplex .pos) (h .begun), e)
+
+pub passed-ordered : (s : Session) (f : Flags) (more : Bool) (n : ℕ) (t : Answer) → number t ≡ refusal (rateOf (s .level)) (seen s) f more n → t ≡ Done → Ordered (rateOf (s .level)) (seen s .duplex)
 unfolding refusal
-passed-formed s f more n t e d = well-is-formed s (well _ _ (sym e ∙ ap number d))
+passed-ordered s f more n t e d = well-ordered (rateOf (s .level)) (seen s) (well _ _ (sym e ∙ ap number d))
 
 -- ---- there is a place for the next byte once an operation is opened
 
@@ -86,7 +95,7 @@ forced-room sp f d h = go (has f C && not (eqb (d .pos) 0))
 pub begun-room : {rate pos : ℕ} → pos < rate → rate ≤ 166 → Room rate pos (pos + 1)
 begun-room h k = record { below = h; begun = omega arith; small = k }
 
-pub opened-room : (s : Session) (f : Flags) (more : Bool) → Formed s
+pub opened-room : (s : Session) (f : Flags) (more : Bool) → Ordered (rateOf (s .level)) (seen s .duplex)
     → let d = opened (spongeOf (s .level)) (seen s) f more .duplex in Room (rateOf (s .level)) (d .pos) (d .begin)
 unfolding opened beginOp
 opened-room s f true h = record { below = h .below; begun = omega arith; small = rate-small (s .level) }
@@ -99,7 +108,7 @@ opened-room s f false h =
 
 -- the same of what the code holds
 pub ready-room : (s : Session) (f : Flags) (more : Bool) (st : List ℕ) (ready : Thread) (rate : ℕ) → rate ≡ rateOf (s .level)
-    → Formed s → strobeOf st ready ≡ opened (sponge rate) (seen s) f more → Room rate (ready .places .pos) (ready .places .begin)
+    → Ordered (rateOf (s .level)) (seen s .duplex) → strobeOf st ready ≡ opened (sponge rate) (seen s) f more → Room rate (ready .places .pos) (ready .places .begin)
 ready-room s f more st ready rate er h o =
     let o′ : strobeOf st ready ≡ opened (spongeOf (s .level)) (seen s) f more = rw er at o in
     rw er

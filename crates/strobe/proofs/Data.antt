@@ -11,6 +11,11 @@ use Rattle.strobe.specs.Duplex.{Sponge, Duplex, Rule, atPos, placed, clo
 use Rattle.strobe.specs.Flags.{zeroing}
 use Rattle.strobe.specs.Loops.{at, Room}
 
+-- the position is below the rate, and the begin position at or before it
+pub record Ordered (rate : ℕ) (d : Duplex) : Type 0 where
+  pub below : d .pos < rate
+  pub begun : d .begin ≤ d .pos
+
 module _ (sp : Sponge) where
   -- ---- a full block
 

@@ -1,5 +1,11 @@
+pub mod Accepted
 pub mod Calls
+pub mod CutAnywhere
 pub mod Cutting
 pub mod Data
+pub mod Lengths
+pub mod Limits
 pub mod Loops
+pub mod Positions
+pub mod Promise
 pub mod Twenty

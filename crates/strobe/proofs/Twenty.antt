@@ -7,6 +7,7 @@ use lib.Dec.{eqb, ltb}
 use borrow.Author.Tests.{eqb-true, eqb-false, ltb-true}
 use native.Mathlib.Omega.{arith}
 use Rattle.strobe.specs.Duplex.{Rule}
+use Rattle.strobe.specs.Every.{Every}
 use Rattle.strobe.specs.Flags.{flags, I, A, C, T, has, operationOf, operation, known, isRecvMac, absorbing, overwriting, squeezing, copying, enciphering, deciphering, ruleOf}
 use Rattle.strobe.specs.Loops.{among, takers, changers, macs, ratchets}
 use Rattle.strobe.specs.declared.flags.Flags.{Flags}
@@ -14,10 +15,6 @@ use Rattle.strobe.specs.declared.flags.Operation.{Operation}
 use Rattle.strobe.specs.declared.flags.Operation.the-variants.{Ad, Ratchet, Key, Prf, SendClr, RecvClr, SendMac, RecvMac, SendEnc, RecvEnc, Unknown}
 
 -- ---- what holds at each byte of a list holds of a byte among them
-
-abbrev pub Every : (Flags → Type 0) → List Flags → Type 0
-Every P [] = Unit {0}
-Every P (f ∷ fs) = P f × Every P fs
 
 pub at-each : (P : Flags → Type 0) (l : List Flags) → Every P l → (f : Flags) → among l f ≡ true → P f
 at-each P [] h f e = absurd (let z : _≡_ {A = ℕ} 0 1 = cc in omega arith)

@@ -1,7 +1,11 @@
 pub mod Answer
+pub mod Counting
 pub mod Duplex
+pub mod Every
 pub mod Flags
+pub mod Limits
 pub mod Loops
 pub mod Pieces
+pub mod Positions
 pub mod Session
 pub mod Strobe

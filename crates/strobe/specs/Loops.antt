@@ -7,7 +7,7 @@ use lib.Dec.{eqb}
 use lib.ListN.{getD, set}
 use Rattle.strobe.specs.Duplex.{Duplex, Rule, after, out, met, same}
 use Rattle.strobe.specs.Flags.{AD, RATCHET, KEY, PRF, SEND-CLR, RECV-CLR, SEND-MAC, RECV-MAC, SEND-ENC, RECV-ENC, META-AD, META-RATCHET, META-KEY, META-PRF, META-SEND-CLR, META-RECV-CLR, META-SEND-MAC, META-RECV-MAC, META-SEND-ENC, META-RECV-ENC}
-use Rattle.strobe.specs.Session.{rateOf, sponge}
+use Rattle.strobe.specs.Session.{sponge}
 use Rattle.strobe.specs.Strobe.{Strobe}
 use Rattle.strobe.specs.declared.opening.Thread.{Thread}
 use Rattle.strobe.specs.declared.flags.Flags.{Flags}
@@ -72,11 +72,6 @@ macs = RECV-MAC ∷ META-RECV-MAC ∷ []
 
 abbrev pub ratchets : List Flags
 ratchets = RATCHET ∷ META-RATCHET ∷ []
-
--- the session may be worked on
-pub record Formed (s : Session) : Type 0 where
-  pub below : s .pos < rateOf (s .level)
-  pub begun : s .begin ≤ s .pos
 
 -- a session's parts, taken apart and put together again
 abbrev pub threadOf : Session → Thread

@@ -6,7 +6,7 @@ use lib.Dec.{eqb, leb, ltb}
 use lib.ListN.{length, replicate}
 use Rattle.strobe.specs.Answer.{done, keyFlag, noOperation, notTheLast, cutMac, tooLong, notASession, macUnequal}
 use Rattle.strobe.specs.Duplex.{Sponge, Duplex, close, after, out, met, same}
-use Rattle.strobe.specs.Flags.{flags, I, C, T, K, has, operation, known, isRecvMac, overLimit, absorbing, ruleOf}
+use Rattle.strobe.specs.Flags.{I, C, T, K, META-AD, has, operation, known, isRecvMac, overLimit, absorbing, ruleOf}
 use Rattle.strobe.specs.declared.flags.Flags.{Flags}
 use Rattle.strobe.specs.declared.flags.Operation.{Operation}
 use Rattle.strobe.specs.declared.direction.Direction.{Direction}
@@ -128,4 +128,4 @@ module _ (sp : Sponge) where
 
   -- meta-ad of the protocol name
   unfoldable pub fresh : List ℕ → Strobe
-  fresh name = call unnamed (flags 0x12) false name .strobe
+  fresh name = call unnamed META-AD false name .strobe

@@ -81,8 +81,9 @@ pub fn squeeze(st: &mut [u8; 200], pos: usize, buf: &mut [u8])
 {
     let mut j: usize = 0;
     while j < buf.len() {
-        buf[j] = st[pos + j];
+        let drawn = st[pos + j];
         st[pos + j] = 0;
+        buf[j] = drawn;
         j += 1;
     }
 }

@@ -5,7 +5,7 @@ use mathlib.Core.List.{[], _∷_}
 use lib.ListN.{replicate, length-replicate}
 use borrow.Author.Needs.{needs}
 use types.Run.{miss}
-use Rattle.strobe.proofs.Calls.{rate-small, passed-formed, ready-room, refused, finish, verdict-done, feeding}
+use Rattle.strobe.proofs.Calls.{rate-small, passed-ordered, ready-room, refused, finish, verdict-done, feeding}
 use Rattle.strobe.proofs.Twenty.{ratchets-are}
 use Rattle.strobe.specs.Flags.{isRecvMac, zeroing}
 use Rattle.strobe.specs.declared.answer.Answer.the-variants.{Done}
@@ -21,13 +21,13 @@ returns c =
 opened-requires : tie.Need-opened-requires
 opened-requires c κs =
     let o = c .before .before .before .before in
-    let formed = passed-formed (o .before .before .before .args .self) (o .before .before .before .args .flags) (o .before .before .before .args .more) _ (o .before .before .tested .result) (o .before .before .tested .ensures) (o .enum-told .given .1) in
-    rw (c .thread .ensures, c .before .before .before .rate .ensures) ((formed .below, formed .begun, rate-small (o .before .before .before .args .self .level)))
+    let ordered = passed-ordered (o .before .before .before .args .self) (o .before .before .before .args .flags) (o .before .before .before .args .more) _ (o .before .before .tested .result) (o .before .before .tested .ensures) (o .enum-told .given .1) in
+    rw (c .thread .ensures, c .before .before .before .rate .ensures) ((ordered .below, ordered .begun, rate-small (o .before .before .before .args .self .level)))
 
 zero-state-requires : tie.Need-zero-state-requires
 zero-state-requires c κs =
     let o = c .before .before .before .before .before .before in
-    ready-room (o .before .before .before .args .self) _ _ _ (c .before .opened .result) _ (c .before .before .before .before .before .rate .ensures) (passed-formed (o .before .before .before .args .self) (o .before .before .before .args .flags) (o .before .before .before .args .more) _ (o .before .before .tested .result) (o .before .before .tested .ensures) (o .enum-told .given .1)) (rw (c .before .before .thread .ensures) at (c .before .opened .ensures))
+    ready-room (o .before .before .before .args .self) _ _ _ (c .before .opened .result) _ (c .before .before .before .before .before .rate .ensures) (passed-ordered (o .before .before .before .args .self) (o .before .before .before .args .flags) (o .before .before .before .args .more) _ (o .before .before .tested .result) (o .before .before .tested .ensures) (o .enum-told .given .1)) (rw (c .before .before .thread .ensures) at (c .before .opened .ensures))
 
 returns-2 : tie.Need-returns-2
 returns-2 c =
