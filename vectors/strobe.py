@@ -278,6 +278,18 @@ IN_PIECES = [
     (RECV_ENC, False, 3),
 ]
 
+# In pieces: the flags, `more` of the first piece, the size of a piece.
+CUT = [
+    (M | AD, True, 0),
+    (KEY, False, 1),
+    (SEND_ENC, False, 99),
+    (SEND_ENC, True, 166),
+    (PRF, False, 200),
+    (RATCHET, False, 1000),
+    (RECV_ENC, True, 7),
+    (RECV_MAC, False, 64),
+]
+
 # By number, each on the same session, whose last operation is ad. Where two
 # tests fail the earlier one answers.
 REFUSED = [
@@ -373,6 +385,22 @@ def numbered(lines):
         lines.numbered(session, flags, False, 5)
 
 
+def cut(lines):
+    """Calls of 200 bytes in pieces; a size of 0 is no cut."""
+    session = fresh(NAME, 128)
+    for flags, more, size in CUT:
+        data = counting(flags, 200)
+        size = size or len(data)
+        given = b""
+        for at in range(0, len(data), size):
+            answer, piece = session.call(flags, more, data[at:at + size])
+            given += piece
+            more = True
+            if answer not in (DONE, MAC_UNEQUAL):
+                break
+        lines.outcome(answer, session, given + data[len(given):])
+
+
 def limits(lines, session):
     """The longest that are done, the shortest that are refused."""
     lines.named(copy.deepcopy(session), RATCHET, True, 65537)
@@ -418,6 +446,7 @@ def all_lines():
         sequence(lines, level)
         ends(lines, level)
     numbered(lines)
+    cut(lines)
     refusals(lines)
     lines.lines.append(merlin().hex())
     return lines.lines

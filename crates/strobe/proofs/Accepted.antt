@@ -7,9 +7,9 @@ use lib.Dec.{eqb, leb, ltb}
 use lib.ListN.{length}
 use borrow.Author.Tests.{lt-ltb, le-ltb, ltb-false, le-leb, eqb-true, eqb-false, eq-eqb}
 use native.Mathlib.Omega.{arith}
+use Rattle.strobe.specs.Answer.{refuses}
 use Rattle.strobe.specs.Duplex.{Sponge, Duplex, Rule, placed, close, closeIfFull, step, after}
 use Rattle.strobe.specs.Flags.{C, K, has, operation, known, isRecvMac, overLimit, ruleOf, absorbing, ratchetLimit, macLimit}
-use Rattle.strobe.specs.Pieces.{refuses}
 use Rattle.strobe.specs.Strobe.{Strobe, mixed, directed, forced, beginOp, opened, knownLast, isLast, wellFormed, refusal, worked, settled, call}
 use Rattle.strobe.specs.declared.direction.Direction.{Direction}
 use Rattle.strobe.specs.declared.flags.Flags.{Flags}

@@ -8,9 +8,10 @@ use lib.ListN.{length, take, drop, length-append, length-drop, drop-of-length-le
 use lib.Seq.{length-take-le, take-at, drop-at, take-all}
 use borrow.Author.Tests.{le-leb, lt-leb, leb-true, leb-false, eqb-false}
 use native.Mathlib.Omega.{arith}
+use Rattle.strobe.specs.Answer.{refuses}
 use Rattle.strobe.specs.Duplex.{Sponge}
 use Rattle.strobe.specs.Flags.{operation, ruleOf}
-use Rattle.strobe.specs.Pieces.{refuses, followed, pieceSize, inPieces, callInPieces}
+use Rattle.strobe.specs.Pieces.{followed, pieceSize, inPieces, callInPieces}
 use Rattle.strobe.specs.Session.{held, Comes}
 use Rattle.strobe.specs.Strobe.{Strobe, Effect, opened, refusal, worked, settled, call}
 use Rattle.strobe.specs.declared.flags.Flags.{Flags}

@@ -5,9 +5,9 @@ use mathlib.Core.List.{List, [], _∷_}
 use mathlib.Core.Bool.{Bool}
 use lib.ListN.{getD}
 use Rattle.laws.proofs.Promise.{one-answer}
-use Rattle.strobe.specs.Answer.{number}
+use Rattle.strobe.specs.Answer.{number, refuses}
 use Rattle.strobe.specs.Flags.{has, operation}
-use Rattle.strobe.specs.Pieces.{refuses, callInPieces}
+use Rattle.strobe.specs.Pieces.{callInPieces}
 use Rattle.strobe.specs.Session.{rateOf, spongeOf, seen, Given, freshAt, created, versionText, Is, Comes, Calls}
 use Rattle.strobe.specs.Strobe.{Effect}
 use Rattle.strobe.specs.declared.answer.Answer.{Answer}
@@ -80,6 +80,9 @@ has-one-answer f one = one-answer
 
 pub operation-one-answer : (f : Flags) {x y : Operation} → x ≡ operation f → y ≡ operation f → x ≡ y
 operation-one-answer f = one-answer
+
+pub number-one-answer : (a : Answer) {x y : ℕ} → x ≡ number a → y ≡ number a → x ≡ y
+number-one-answer a = one-answer
 
 pub refuses-one-answer : (a : Answer) {x y : Bool} → x ≡ refuses (number a) → y ≡ refuses (number a) → x ≡ y
 refuses-one-answer a = one-answer

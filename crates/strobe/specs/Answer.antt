@@ -1,5 +1,7 @@
 -- The answers by document 01's numbers, "Answers". The journal's own answer, 7, has its number here too.
+use mathlib.Core.Bool.{Bool, not, _||_}
 use Prim.Native.Nat.{ℕ}
+use lib.Dec.{eqb}
 use Rattle.strobe.specs.declared.answer.Answer.{Answer}
 use Rattle.strobe.specs.declared.answer.Answer.the-variants.{Done, KeyFlag, NoOperation, NotTheLast, CutMac, TooLong, NoLevel, NotASession, MacUnequal, BadSaved, ShortBuffer}
 
@@ -51,3 +53,7 @@ number NotASession = notASession
 number MacUnequal = macUnequal
 number BadSaved = badSaved
 number ShortBuffer = shortBuffer
+
+-- a wrong MAC is an answer; every other answer but 0 is a refusal
+abbrev pub refuses : ℕ → Bool
+refuses n = not (eqb n done || eqb n macUnequal)

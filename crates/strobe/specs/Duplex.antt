@@ -1,5 +1,5 @@
--- The duplex of STROBE v1.0.2, section 5.2: a byte of data, closing a block, many bytes of data. All of it is over a sponge (a permutation of
--- byte lists, a rate, and the count of state bytes), and over a rule, what a byte of data does with the state byte that it meets.
+-- The duplex of STROBE v1.0.2: document 01, "The session", closing a block and a byte of data (`_run_f` and `_duplex` of the specification). All of it is
+-- over a sponge (a permutation of byte lists, a rate, and the count of state bytes), and over a rule, what a byte of data does with the state byte it meets.
 use mathlib.Core.Bool.{Bool, true, false, cond, _&&_}
 use mathlib.Core.List.{List, [], _∷_}
 use Prim.Native.Nat.{ℕ, _+_}

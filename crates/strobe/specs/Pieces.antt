@@ -1,17 +1,13 @@
 -- A call in pieces: document 01, "More on". Each piece is a call; those after the first have `more` on; the first refusal ends it.
-use mathlib.Core.Bool.{Bool, true, not, cond, _||_}
+use mathlib.Core.Bool.{Bool, true, cond}
 use mathlib.Core.List.{List, _++_}
 use Prim.Native.Nat.{ℕ, zero, suc}
 use lib.Dec.{eqb, leb}
 use lib.ListN.{length, take, drop}
-use Rattle.strobe.specs.Answer.{done, macUnequal}
+use Rattle.strobe.specs.Answer.{refuses}
 use Rattle.strobe.specs.Duplex.{Sponge}
 use Rattle.strobe.specs.Strobe.{Strobe, Effect, call}
 use Rattle.strobe.specs.declared.flags.Flags.{Flags}
-
--- every other answer is a refusal
-abbrev pub refuses : ℕ → Bool
-refuses answer = not (eqb answer done || eqb answer macUnequal)
 
 -- what came of a piece, then of the pieces behind it; a refusal leaves the bytes behind it as they are
 abbrev pub followed : Effect → List ℕ → Effect → Effect

@@ -1,4 +1,5 @@
--- STROBE v1.0.2 as document 01 gives it, "The session": opening an operation, one call with its refusals, a fresh session. All of it is over a sponge.
+-- STROBE v1.0.2: document 01, "The session" and "Answers". Opening an operation (`_begin_op` of the specification), one call with its refusals, a fresh session.
+-- All of it is over a sponge.
 use mathlib.Core.Bool.{Bool, true, false, not, cond, _&&_}
 use mathlib.Core.List.{List, [], _∷_}
 use Prim.Native.Nat.{ℕ, zero, suc, _+_, _-_, _%_}

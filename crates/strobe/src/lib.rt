@@ -10,8 +10,8 @@ mod named;
 mod opening;
 mod parts;
 mod pieces;
+mod refusal;
 mod session;
-mod tests;
 
 pub use answer::Answer;
 pub use direction::Direction;

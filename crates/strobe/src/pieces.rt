@@ -1,33 +1,10 @@
 // A call in pieces, for a buffer that is to go through a session bit by bit.
 ghost use mathlib.Core.Path.{_≡_};
-ghost use Rattle.strobe.specs.Answer.{number};
-ghost use Rattle.strobe.specs.Pieces.{refuses, pieceSize, callInPieces};
+ghost use Rattle.strobe.specs.Pieces.{pieceSize, callInPieces};
 ghost use Rattle.strobe.specs.Session.{spongeOf, seen, Comes};
-use crate::answer::Answer;
 use crate::flags::Flags;
 use crate::session::Outcome;
 use crate::session::Session;
-
-impl Answer {
-    // Whether nothing was done. A wrong MAC is no refusal.
-    pub fn refuses(self) -> bool
-        ensures { λ r. ⌜ r ≡ refuses (number self) ⌝ }
-    {
-        match self {
-            Answer::Done => false,
-            Answer::KeyFlag => true,
-            Answer::NoOperation => true,
-            Answer::NotTheLast => true,
-            Answer::CutMac => true,
-            Answer::TooLong => true,
-            Answer::NoLevel => true,
-            Answer::NotASession => true,
-            Answer::MacUnequal => false,
-            Answer::BadSaved => true,
-            Answer::ShortBuffer => true,
-        }
-    }
-}
 
 // A size of 0 is no cut.
 fn piece_size(size: usize, whole: usize) -> usize

@@ -5,21 +5,10 @@ use strobe::Direction;
 use strobe::Last;
 use strobe::Outcome;
 
-// Document 01's number of an answer, in two decimal digits.
+// Two decimal digits.
 fn number(answer: Answer) -> [u8; 2] {
-    match answer {
-        Answer::Done => *b"00",
-        Answer::KeyFlag => *b"01",
-        Answer::NoOperation => *b"02",
-        Answer::NotTheLast => *b"03",
-        Answer::CutMac => *b"04",
-        Answer::TooLong => *b"05",
-        Answer::NoLevel => *b"06",
-        Answer::NotASession => *b"08",
-        Answer::MacUnequal => *b"09",
-        Answer::BadSaved => *b"10",
-        Answer::ShortBuffer => *b"11",
-    }
+    let n = answer.number();
+    [b'0' + n / 10, b'0' + n % 10]
 }
 
 // Every position is below 256, which its type does not say.

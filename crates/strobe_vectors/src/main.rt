@@ -7,6 +7,7 @@ mod merlin;
 mod named;
 mod numbered;
 mod output;
+mod pieces;
 mod refusals;
 mod sequence;
 mod version;
@@ -21,6 +22,7 @@ fn main() {
     sequence::write(Level::B256);
     ends::write(256);
     numbered::write();
+    pieces::write();
     refusals::write();
     merlin::write();
 }

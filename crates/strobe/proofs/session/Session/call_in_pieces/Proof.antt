@@ -4,8 +4,8 @@ use mathlib.Core.Path.{_≡_, refl, sym, ap, _∙_}
 use native.Mathlib.Omega.{arith}
 use lib.ListN.{length}
 use borrow.Author.Needs.{needs}
-use Rattle.strobe.specs.Answer.{number}
-use Rattle.strobe.specs.Pieces.{refuses, pieceSize}
+use Rattle.strobe.specs.Answer.{number, refuses}
+use Rattle.strobe.specs.Pieces.{pieceSize}
 use Rattle.strobe.specs.Session.{spongeOf, seen, Comes}
 use Rattle.strobe.specs.declared.session.Session.{Session}
 use Rattle.strobe.proofs.Cutting.{Cut, cut-start, cut-turn, cut-refused, cut-last, some-size, comes-whole}
