@@ -4,7 +4,7 @@
 STROBE is written as its specification writes it, with one duplex for all
 operations, so it shares no method with the library under test, which has a
 loop for each. It is compared with a published output of Merlin, whose
-transcripts are STROBE-128, and with the cases on positions of document 01
+transcripts are STROBE-128, and with the cases on positions of docs/RULES.md
 before the crate's stdout is written, or, with --check, compared with what
 would be written.
 """
@@ -46,7 +46,7 @@ NOT_A_SESSION, MAC_UNEQUAL = 8, 9
 MERLIN_CHALLENGE = bytes.fromhex(
     "d5a21972d0d5fe320c0d263fac7fffb8145aa640af6e9bca177c03c7efcf0615")
 
-# Document 01's cases on positions: the level, the length of the name, then a
+# The cases of docs/RULES.md, 10: the level, the length of the name, then a
 # call's flags, `more` and length, if there is one; the position and the begin
 # position after it.
 POSITIONS = [
@@ -172,7 +172,7 @@ class Strobe:
         return DONE, processed if gives else data
 
     def refusal(self, flags, more, n):
-        """Document 01, "Answers": the first test that fails, or DONE."""
+        """docs/RULES.md, 7: the first test that fails, or DONE."""
         plain = flags & ~M
         tests = [
             (not (self.pos_begin <= self.pos < self.rate

@@ -1,4 +1,4 @@
--- The marked cases of document 01 on positions hold for every permutation, every name and every data: they depend on lengths alone, so zeros do for
+-- The cases of docs/RULES.md, section 10, hold for every permutation, every name and every data: they depend on lengths alone, so zeros do for
 -- the bytes, and at zeros the table is computed. Assumes nothing.
 use Prim.Native.Nat.{ℕ}
 use mathlib.Core.Path.{_≡_, refl, sym, _∙_}

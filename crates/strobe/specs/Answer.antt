@@ -1,4 +1,4 @@
--- The answers by document 01's numbers, "Answers". The journal's own answer, 7, has its number here too.
+-- The answers by their numbers: docs/RULES.md, section 7. The journal's own answer, 7, has its number here too.
 use mathlib.Core.Bool.{Bool, not, _||_}
 use Prim.Native.Nat.{ℕ}
 use lib.Dec.{eqb}

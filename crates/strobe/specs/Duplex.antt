@@ -1,5 +1,5 @@
--- The duplex of STROBE v1.0.2: document 01, "The session", closing a block and a byte of data (`_run_f` and `_duplex` of the specification). All of it is
--- over a sponge (a permutation of byte lists, a rate, and the count of state bytes), and over a rule, what a byte of data does with the state byte it meets.
+-- The duplex of STROBE v1.0.2, its `_duplex` and `_run_f`: docs/RULES.md, sections 3 and 4. All of it is over a sponge (a permutation of byte
+-- lists, a rate, and the count of state bytes), and over a rule, what a byte of data does with the state byte that it meets.
 use mathlib.Core.Bool.{Bool, true, false, cond, _&&_}
 use mathlib.Core.List.{List, [], _∷_}
 use Prim.Native.Nat.{ℕ, _+_}
@@ -32,12 +32,12 @@ mix st i x = set st i (bitXor (getD st i 0) x)
 abbrev pub atPos : Duplex → ℕ
 atPos d = getD (d .st) (d .pos) 0
 
--- a byte of data at the position, which then grows by one
+-- section 3: a byte of data at the position, which then grows by one
 abbrev pub placed : Rule → Duplex → ℕ → Duplex
 placed r d b = record { st = set (d .st) (d .pos) (r .state (atPos d) b); pos = d .pos + 1; begin = d .begin }
 
 module _ (sp : Sponge) where
-  -- the begin position at the position, 04 in the next byte, 80 in byte R+1; where the position is R the last two fall on one byte
+  -- section 4: the begin position at the position, 04 in the next byte, 80 in byte R+1; where the position is R the last two fall on one byte
   unfoldable pub padded : Duplex → List ℕ
   padded d = mix (mix (mix (d .st) (d .pos) (d .begin)) (d .pos + 1) 0x04) (sp .rate + 1) 0x80
 

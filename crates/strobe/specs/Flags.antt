@@ -1,4 +1,4 @@
--- The flag byte: document 01, "The flag byte". Its six bits, the twenty operations, their limits, and the table of their rules.
+-- The flag byte: docs/RULES.md, section 1, and the limits of section 7. Its six bits, the twenty operations, and the table of their rules.
 use mathlib.Core.Bool.{Bool, true, false, not, cond}
 use Prim.Native.Nat.{ℕ, _%_}
 use lib.Bits.{bitAnd, bitXor}

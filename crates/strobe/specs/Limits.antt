@@ -1,4 +1,4 @@
--- The limits of one call, document 01, "Cases on positions": one table, and one statement about a row of it, over any sponge and any session.
+-- The limits of one call, docs/RULES.md, section 10: one table, and one statement about a row of it, over any sponge and any session.
 use mathlib.Core.Bool.{true, false, cond}
 use mathlib.Core.List.{List, [], _∷_}
 use mathlib.Core.Path.{_≡_}

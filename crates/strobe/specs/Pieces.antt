@@ -1,4 +1,4 @@
--- A call in pieces: document 01, "More on". Each piece is a call; those after the first have `more` on; the first refusal ends it.
+-- A call in pieces: docs/RULES.md, section 8. Each piece is a call; those after the first have `more` on; the first refusal ends it.
 use mathlib.Core.Bool.{Bool, true, cond}
 use mathlib.Core.List.{List, _++_}
 use Prim.Native.Nat.{ℕ, zero, suc}

@@ -1,4 +1,4 @@
--- The marked cases of document 01, "Cases on positions": one table, and one statement about a row of it, over any permutation.
+-- The cases on positions, docs/RULES.md, section 10: one table, and one statement about a row of it, over any permutation.
 use mathlib.Core.Bool.{Bool, true, false}
 use mathlib.Core.List.{List, [], _∷_}
 use mathlib.Core.Path.{_≡_}

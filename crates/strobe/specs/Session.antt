@@ -1,4 +1,5 @@
--- Sessions over Keccak-f[1600], as the code holds them: the two levels, the blank, creation by number, the version text, and what the public functions promise.
+-- Sessions over Keccak-f[1600], as the code holds them: the two levels, the blank, creation by number, the version text (docs/RULES.md, sections 2, 7 and 9),
+-- and what the public functions promise.
 use mathlib.Core.Bool.{Bool, cond}
 use mathlib.Core.List.{List, [], _∷_, _++_}
 use mathlib.Core.Path.{_≡_}
@@ -63,7 +64,7 @@ given n s = record { answer = n; session = s }
 abbrev pub freshAt : Level → List ℕ → Given
 freshAt l name = given done (held l (fresh (spongeOf l) name))
 
--- not well formed, so that every call on it gets 8
+-- section 2: not well formed, so that every call on it gets 8
 abbrev pub blank : Session
 blank =
     record { state = replicate 200 0; level = B128; pos = 166; begin = 166; direction = Neither; last = Nothing }
@@ -72,7 +73,7 @@ blank =
 unfoldable pub created : List ℕ → ℕ → Given
 created name n = cond (eqb n 128) (freshAt B128 name) (cond (eqb n 256) (freshAt B256 name) (given noLevel blank))
 
--- ---- the version text
+-- ---- section 9: the version text
 
 -- 128 or 256, in ASCII
 abbrev pub levelText : Level → List ℕ

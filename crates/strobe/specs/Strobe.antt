@@ -1,5 +1,5 @@
--- STROBE v1.0.2: document 01, "The session" and "Answers". Opening an operation (`_begin_op` of the specification), one call with its refusals, a fresh session.
--- All of it is over a sponge.
+-- STROBE v1.0.2 over a sponge: opening an operation (`_begin_op`), one call with its refusals (`operate`), a fresh session. docs/RULES.md, sections 2
+-- and 5 to 7.
 use mathlib.Core.Bool.{Bool, true, false, not, cond, _&&_}
 use mathlib.Core.List.{List, [], _∷_}
 use Prim.Native.Nat.{ℕ, zero, suc, _+_, _-_, _%_}
@@ -21,7 +21,7 @@ pub record Strobe : Type 0 where
   pub direction : Direction
   pub last : Last
 
--- ---- opening an operation
+-- ---- section 5: opening an operation
 
 -- the first operation with T sets the direction
 abbrev pub directed : Direction → Flags → Direction
@@ -57,7 +57,7 @@ module _ (sp : Sponge) where
       let dir = directed (s .direction) f in
       record { duplex = beginOp dir f (s .duplex); direction = dir; last = Op f }
 
--- ---- the refusals
+-- ---- sections 2 and 7: the refusals
 
 -- the last operation is none or one of the twenty
 abbrev pub knownLast : Last → Bool
@@ -83,7 +83,7 @@ refusal rate s f more n =
     (cond (overLimit (operation f) n) tooLong
     done)))))
 
--- ---- one call
+-- ---- section 7: one call
 
 -- what comes of a call: the answer, the session, the lent bytes
 pub record Effect : Type 0 where
@@ -114,7 +114,7 @@ module _ (sp : Sponge) where
   unfoldable pub call : Strobe → Flags → Bool → List ℕ → Effect
   call s f more bs = settled (refusal (sp .rate) s f more (length bs)) s f more bs
 
-  -- ---- a fresh session
+  -- ---- section 6: a fresh session
 
   -- 01, R+2, 01, 00, 01, 60, the text STROBEv1.0.2, and zeros
   unfoldable pub seed : List ℕ

@@ -27,7 +27,7 @@ pub enum Answer {
 }
 
 impl Answer {
-    // Document 01's number.
+    // The number of docs/RULES.md, section 7.
     pub fn number(self) -> u8
         ensures { λ r. ⌜ r ≡ number self ⌝ }
     {
