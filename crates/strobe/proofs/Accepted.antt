@@ -1,11 +1,11 @@
 -- A call that is not refused: which tests it passed, and that it leaves a session which the same operation may go on with. Assumes nothing.
-use Prim.Native.Nat.{ℕ, zero, suc, _+_, _≤_, _<_}
+use Prim.Native.Nat.{ℕ, suc, _+_, _≤_, _<_}
 use mathlib.Core.Path.{_≡_, refl, sym, ap, _∙_}
 use mathlib.Core.List.{List, [], _∷_}
 use mathlib.Core.Bool.{Bool, true, false, not, cond, _&&_}
-use lib.Dec.{eqb, leb, ltb}
+use lib.Dec.{eqb}
 use lib.ListN.{length}
-use borrow.Author.Tests.{lt-ltb, le-ltb, ltb-false, le-leb, eqb-true, eqb-false, eq-eqb}
+use borrow.Author.Tests.{le-ltb, ltb-false, eqb-true, eqb-false, eq-eqb}
 use native.Mathlib.Omega.{arith}
 use Rattle.strobe.specs.Answer.{refuses}
 use Rattle.strobe.specs.Duplex.{Sponge, Duplex, Rule, placed, close, closeIfFull, step, after}
@@ -15,8 +15,6 @@ use Rattle.strobe.specs.declared.direction.Direction.{Direction}
 use Rattle.strobe.specs.declared.flags.Flags.{Flags}
 use Rattle.strobe.specs.declared.flags.Operation.{Operation}
 use Rattle.strobe.specs.declared.flags.Operation.the-variants.{Ad, Ratchet, Key, Prf, SendClr, RecvClr, SendMac, RecvMac, SendEnc, RecvEnc, Unknown}
-use Rattle.strobe.specs.declared.last.Last.{Last}
-use Rattle.strobe.specs.declared.last.Last.the-variants.{Op}
 use Rattle.strobe.proofs.Calls.{well-ordered, well-known, ordered-well}
 use Rattle.strobe.proofs.Data.{Ordered, full-closed, not-full-kept}
 

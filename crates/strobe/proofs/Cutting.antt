@@ -72,12 +72,16 @@ module _ (sp : Sponge) (f : Flags) (size : ℕ) where
       ∙ ap (followed (call sp s f more (take size bs)) (drop size bs)) (enough z n _ true (drop size bs) (rw (length-drop size bs) (omega arith)))
 
 -- a loop that goes on has pieces of some size
-pub some-size : (size n m : ℕ) → pieceSize size n < m → m ≤ n → 0 < pieceSize size n
+some-size : (size n m : ℕ) → pieceSize size n < m → m ≤ n → 0 < pieceSize size n
 some-size size n m h k = go (eqb size 0) refl h
   where
     go : (t : Bool) → eqb size 0 ≡ t → cond t n size < m → 0 < cond t n size
     go true e h = absurd (omega arith)
     go false e h = let z : size ≡ 0 → ⊥ = eqb-false _ _ e in omega arith
+
+-- the same of what the code holds
+pub cut-size : (size n step m : ℕ) → step ≡ pieceSize size n → step < m → m ≤ n → 0 < step
+cut-size size n step m e h k = rw e (some-size size n m (rw e at h) k)
 
 -- ---- the loop
 
@@ -109,12 +113,12 @@ module _ (sp : Sponge) (f : Flags) (size : ℕ) (s₀ : Strobe) (more : Bool) (b
         unrolled sp f size z (length buf₀) s on (drop a buf) (rw (length-drop a buf) h) (rw (length-drop a buf) (omega (arith, g .long)))
 
     pub cut-turn : 0 < size → size < length buf - a → (k : ℕ) → k ≡ size
-        → refuses (call sp s f on (take k (drop a buf)) .answer) ≡ false
+        → (n : ℕ) → n ≡ call sp s f on (take k (drop a buf)) .answer → (t : Bool) → t ≡ refuses n → t ≡ false
         → (s′ : Strobe) → s′ ≡ call sp s f on (take k (drop a buf)) .strobe
         → (ys : List ℕ) → ys ≡ call sp s f on (take k (drop a buf)) .lent
         → (buf′ : List ℕ) → buf′ ≡ take a buf ++ (ys ++ drop k (drop a buf))
         → Cut sp f size s₀ more buf₀ s′ true buf′ (a + size)
-    cut-turn z h k ek went s′ es ys ey buf′ eb =
+    cut-turn z h k ek n en t et went s′ es ys ey buf′ eb =
         record {
           within = omega (arith, all);
           long = all ∙ g .long;
@@ -133,7 +137,7 @@ module _ (sp : Sponge) (f : Flags) (size : ℕ) (s₀ : Strobe) (more : Bool) (b
         whole = first-of z h
 
         went′ : refuses (first .answer) ≡ false
-        went′ = rw ek at went
+        went′ = rw ek at (ap refuses (sym en) ∙ sym et ∙ went)
 
         es′ : s′ ≡ first .strobe
         es′ = rw ek at es
@@ -160,12 +164,12 @@ module _ (sp : Sponge) (f : Flags) (size : ℕ) (s₀ : Strobe) (more : Bool) (b
         all = rw (two, length-append (take a buf ++ ys) tl, head, length-drop size (drop a buf), length-drop a buf) (omega arith)
 
     pub cut-refused : 0 < size → size < length buf - a → (k : ℕ) → k ≡ size
-        → refuses (call sp s f on (take k (drop a buf)) .answer) ≡ true
+        → (n : ℕ) → n ≡ call sp s f on (take k (drop a buf)) .answer → (t : Bool) → t ≡ refuses n → t ≡ true
         → (ys : List ℕ) → ys ≡ call sp s f on (take k (drop a buf)) .lent
         → Whole sp f size s₀ more buf₀ (call sp s f on (take k (drop a buf))) (take a buf ++ (ys ++ drop k (drop a buf)))
-    cut-refused z h k ek ended ys ey =
+    cut-refused z h k ek n en t et ended ys ey =
         rw ek
-        (let ended′ : refuses (call sp s f on (take size (drop a buf)) .answer) ≡ true = rw ek at ended in
+        (let ended′ : refuses (call sp s f on (take size (drop a buf)) .answer) ≡ true = rw ek at (ap refuses (sym en) ∙ sym et ∙ ended) in
         let ey′ : ys ≡ call sp s f on (take size (drop a buf)) .lent = rw ek at ey in
         let whole = first-of z h in
         record {

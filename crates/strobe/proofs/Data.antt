@@ -9,7 +9,7 @@ use borrow.Author.Tests.{eq-eqb, ne-eqb, eqb-true, eqb-false}
 use native.Mathlib.Omega.{arith}
 use Rattle.strobe.specs.Duplex.{Sponge, Duplex, Rule, atPos, placed, close, closeIfFull, step, after, out}
 use Rattle.strobe.specs.Flags.{zeroing}
-use Rattle.strobe.specs.Loops.{at, Room}
+use Rattle.strobe.specs.Loops.{Room}
 
 -- the position is below the rate, and the begin position at or before it
 pub record Ordered (rate : ℕ) (d : Duplex) : Type 0 where

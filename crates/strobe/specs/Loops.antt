@@ -1,5 +1,5 @@
 -- What the private byte loops ask and give, for Keccak-f[1600] at a rate. Nothing here is to be believed: no promise of a public function cites it.
-use mathlib.Core.Bool.{Bool, true, false, _||_}
+use mathlib.Core.Bool.{Bool, false, _||_}
 use mathlib.Core.List.{List, [], _∷_}
 use mathlib.Core.Path.{_≡_}
 use Prim.Native.Nat.{ℕ, _+_, _≤_, _<_}

@@ -8,7 +8,7 @@ use lib.Dec.{eqb}
 use lib.ListN.{replicate}
 use Rattle.fips202.specs.Bytes.{keccakF1600}
 use Rattle.strobe.specs.Answer.{number, done, noLevel}
-use Rattle.strobe.specs.Duplex.{Sponge, Duplex}
+use Rattle.strobe.specs.Duplex.{Sponge}
 use Rattle.strobe.specs.Strobe.{Strobe, Effect, call, fresh}
 use Rattle.strobe.specs.declared.flags.Flags.{Flags}
 use Rattle.strobe.specs.declared.level.Level.{Level}

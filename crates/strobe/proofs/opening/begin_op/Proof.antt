@@ -11,14 +11,17 @@ use Rattle.strobe.proofs.opening.begin_op.Tie as tie
 
 absorb-byte-requires-2 : tie.Need-absorb-byte-requires-2
 absorb-byte-requires-2 c κs =
-    let sp = sponge (c .before .before .before .before .before .before .args .rate) in
-    room-of sp _ _ (c .before .before .absorb-byte .ensures) (step-room sp absorbing _ _ (begun-room (c .before .before .before .before .before .before .pre .0) (c .before .before .before .before .before .before .pre .2)))
+    let z = c .before .before .before .before .before .before in
+    let sp = sponge (z .args .rate) in
+    room-of sp _ _ (c .before .before .absorb-byte .ensures) (step-room sp absorbing _ _ (begun-room (z .pre .0) (z .pre .2)))
 
 forced-requires : tie.Need-forced-requires
 forced-requires c κs =
-    let sp = sponge (c .before .before .before .before .before .before .before .before .args .rate) in
+    let z = c .before .before .before .before .before .before .before .before in
+    let sp = sponge (z .args .rate) in
     room-of sp _ _ (c .before .absorb-byte2 .ensures)
-    (step-room sp absorbing _ _ (room-of sp _ _ (c .before .before .before .before .absorb-byte .ensures) (step-room sp absorbing _ _ (begun-room (c .before .before .before .before .before .before .before .before .pre .0) (c .before .before .before .before .before .before .before .before .pre .2)))))
+    (step-room sp absorbing _ _
+    (room-of sp _ _ (c .before .before .before .before .absorb-byte .ensures) (step-room sp absorbing _ _ (begun-room (z .pre .0) (z .pre .2)))))
 
 returns : tie.Need-returns
 unfolding beginOp after

@@ -11,28 +11,35 @@ use Rattle.strobe.proofs.session.Session.generalized_recv_mac.Tie as ti
 
 returns : tie.Need-returns
 returns c =
-    let o = c .before in
-    refused (o .before .before .args .self) (o .before .before .args .flags) (o .before .before .args .more) _
-    (o .tested .result) (λ e. miss (1 ∷ 2 ∷ 3 ∷ 4 ∷ 5 ∷ 6 ∷ 7 ∷ 8 ∷ 9 ∷ 10 ∷ []) 0 tt (rw e at (c .match .keys2))) (o .tested .ensures)
+    let t = c .before in
+    let z = c .before .before .before in
+    refused (z .args .self) (z .args .flags) (z .args .more) _ (t .tested .result)
+    (λ e. miss (1 ∷ 2 ∷ 3 ∷ 4 ∷ 5 ∷ 6 ∷ 7 ∷ 8 ∷ 9 ∷ 10 ∷ []) 0 tt (rw e at (c .match .keys2)))
+    (t .tested .ensures)
 
 opened-requires : tie.Need-opened-requires
 opened-requires c κs =
-    let o = c .before .before .before .before in
-    let ordered = passed-ordered (o .before .before .before .before .args .self) (o .before .before .before .before .args .flags) (o .before .before .before .before .args .more) _ (o .before .before .tested .result) (o .before .before .tested .ensures) (o .enum-told .given .1) in
-    rw (c .thread .ensures, c .before .before .before .rate .ensures) ((ordered .below, ordered .begun, rate-small (o .before .before .before .before .args .self .level)))
+    let t = c .before .before .before .before .before .before in
+    let z = c .before .before .before .before .before .before .before .before in
+    let ordered = passed-ordered (z .args .self) (z .args .flags) (z .args .more) _ (t .tested .result) (t .tested .ensures) (c .before .before .before .before .enum-told .given .1) in
+    rw (c .thread .ensures, c .before .before .before .rate .ensures) ((ordered .below, ordered .begun, rate-small (z .args .self .level)))
 
 check-mac-requires : tie.Need-check-mac-requires
 check-mac-requires c κs =
-    let o = c .before .before .before .before .before .before in
-    ready-room (o .before .before .before .before .args .self) _ _ _ (c .before .opened .result) _ (c .before .before .before .before .before .rate .ensures) (passed-ordered (o .before .before .before .before .args .self) (o .before .before .before .before .args .flags) (o .before .before .before .before .args .more) _ (o .before .before .tested .result) (o .before .before .tested .ensures) (o .enum-told .given .1)) (rw (c .before .before .thread .ensures) at (c .before .opened .ensures))
+    let t = c .before .before .before .before .before .before .before .before in
+    let z = c .before .before .before .before .before .before .before .before .before .before in
+    let ordered = passed-ordered (z .args .self) (z .args .flags) (z .args .more) _ (t .tested .result) (t .tested .ensures) (c .before .before .before .before .before .before .enum-told .given .1) in
+    ready-room (z .args .self) _ _ _ (c .before .opened .result) _ (c .before .before .before .before .before .rate .ensures) ordered (rw (c .before .before .thread .ensures) at (c .before .opened .ensures))
 
 returns-2 : tie.Need-returns-2
 returns-2 c =
-    let o = c .before .before .before .before .before .before .before .before in
-    finish (o .before .before .before .before .args .self) (o .before .before .before .before .args .flags) (o .before .before .before .before .args .more) _ _ (c .before .before .before .before .before .before .before .rate .ensures) _ (c .before .before .before .opened .result) _ _ _ _
-    (o .before .before .tested .result) (o .before .before .tested .ensures) (o .enum-told .given .1) (rw (c .before .before .before .before .thread .ensures) at (c .before .before .before .opened .ensures))
-    (rw (macs-are (o .before .before .before .before .args .flags) (o .before .before .before .before .pre)) (feeding _ overwriting _ _ _ _ _ (λ x b. refl) (c .before .check-mac .ensures .fed)))
-    (verdict-mac _ _ _ _ _ _ (macs-are (o .before .before .before .before .args .flags) (o .before .before .before .before .pre)) (c .verdict .ensures) (c .before .check-mac .ensures .same))
+    let t = c .before .before .before .before .before .before .before .before .before .before in
+    let z = c .before .before .before .before .before .before .before .before .before .before .before .before in
+    finish (z .args .self) (z .args .flags) (z .args .more) _ _ (c .before .before .before .before .before .before .before .rate .ensures) _ (c .before .before .before .opened .result) _ _ _ _
+    (t .tested .result) (t .tested .ensures) (c .before .before .before .before .before .before .before .before .enum-told .given .1)
+    (rw (c .before .before .before .before .thread .ensures) at (c .before .before .before .opened .ensures))
+    (rw (macs-are (z .args .flags) (z .pre)) (feeding _ overwriting _ _ _ _ _ (λ x b. refl) (c .before .check-mac .ensures .fed)))
+    (verdict-mac _ _ _ _ _ _ (macs-are (z .args .flags) (z .pre)) (c .verdict .ensures) (c .before .check-mac .ensures .same))
 
 pub generalized-recv-mac-spec : {M : Type 1} → statement M
 generalized-recv-mac-spec =
