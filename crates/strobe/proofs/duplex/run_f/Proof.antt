@@ -6,7 +6,7 @@ use Rattle.strobe.proofs.duplex.run_f.Tie as tie
 
 returns : tie.Need-returns
 unfolding mix padded
-returns c = search needs
+returns c = rw (c .permute .ensures)
 
 pub run-f-spec : {M : Type 1} → statement M
 run-f-spec =
