@@ -1,5 +1,5 @@
 // Runs STROBE sessions and writes what each call leaves. The crate's stdout has what an independent
-// program, vectors/strobe.py, computed for the same calls.
+// program, vectors/strobe_vectors.py, computed for the same calls.
 mod data;
 mod ends;
 mod line;
