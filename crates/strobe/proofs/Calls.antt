@@ -7,7 +7,7 @@ use lib.Dec.{eqb, ltb, leb, lit≤}
 use lib.ListN.{length, replicate, length-replicate}
 use borrow.Author.Tests.{lt-ltb, ltb-true, le-leb, leb-true}
 use native.Mathlib.Omega.{arith}
-use Rattle.strobe.specs.Duplex.{Sponge, Duplex, Rule, close, after, met, same}
+use Rattle.strobe.specs.Duplex.{Sponge, Duplex, Rule, close, step, after, met, same}
 use Rattle.strobe.specs.Flags.{C, K, META-AD, has, operationOf, operation, isRecvMac, absorbing, zeroing, overwriting, ruleOf}
 use Rattle.strobe.specs.Loops.{at, duplexOf, Room, Fed, Ran, strobeOf}
 use Rattle.strobe.specs.Session.{rateOf, sponge, spongeOf, seen, held, given, freshAt, Is, Comes, Calls}
@@ -91,6 +91,13 @@ forced-room sp f d h = go (has f C && not (eqb (d .pos) 0))
     go : (t : Bool) → Room (sp .rate) (cond t (close sp d) d .pos) (cond t (close sp d) d .begin)
     go true = record { below = omega arith; begun = omega arith; small = h .small }
     go false = h
+
+-- two bytes and a forced close open an operation: the old begin position first, then the flags as mixed
+pub two-bytes-open : (sp : Sponge) (dir : Direction) (f : Flags) (d one two r : Duplex) (m : ℕ)
+    → one ≡ step sp absorbing (at (d .st) (d .pos) (d .pos + 1)) (d .begin) → m ≡ mixed dir f → two ≡ step sp absorbing one m
+    → r ≡ forced sp f two → r ≡ beginOp sp dir f d
+unfolding beginOp after
+two-bytes-open sp dir f d one two r m a b c e = rw (← b, ← a, ← c) e
 
 pub begun-room : {rate pos : ℕ} → pos < rate → rate ≤ 166 → Room rate pos (pos + 1)
 begun-room h k = record { below = h; begun = omega arith; small = k }
