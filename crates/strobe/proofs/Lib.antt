@@ -8,4 +8,5 @@ pub mod Limits
 pub mod Loops
 pub mod Positions
 pub mod Promise
+pub mod Refused
 pub mod Twenty
