@@ -8,8 +8,8 @@ use Rattle.laws.proofs.Promise.{one-answer}
 use Rattle.strobe.specs.Answer.{number, refuses}
 use Rattle.strobe.specs.Flags.{has, operation}
 use Rattle.strobe.specs.Pieces.{callInPieces}
-use Rattle.strobe.specs.Session.{rateOf, spongeOf, seen, Given, freshAt, created, versionText, Is, Comes, Calls}
-use Rattle.strobe.specs.Strobe.{Effect}
+use Rattle.strobe.specs.Session.{rateOf, spongeOf, seen, Given, freshAt, blank, created, versionText, Is, Comes, Calls}
+use Rattle.strobe.specs.Strobe.{Effect, wellFormed}
 use Rattle.strobe.specs.declared.answer.Answer.{Answer}
 use Rattle.strobe.specs.declared.answer.Answer.the-variants.{Done, KeyFlag, NoOperation, NotTheLast, CutMac, TooLong, NoLevel, NotASession, MacUnequal, BadSaved, ShortBuffer}
 use Rattle.strobe.specs.declared.flags.Flags.{Flags}
@@ -86,3 +86,9 @@ number-one-answer a = one-answer
 
 pub refuses-one-answer : (a : Answer) {x y : Bool} → x ≡ refuses (number a) → y ≡ refuses (number a) → x ≡ y
 refuses-one-answer a = one-answer
+
+pub blank-one-answer : {x y : Session} → x ≡ blank → y ≡ blank → x ≡ y
+blank-one-answer = one-answer
+
+pub well-formed-one-answer : (s : Session) {x y : Bool} → x ≡ wellFormed (rateOf (s .level)) (seen s) → y ≡ wellFormed (rateOf (s .level)) (seen s) → x ≡ y
+well-formed-one-answer s = one-answer

@@ -7,5 +7,6 @@ pub mod Limits
 pub mod Loops
 pub mod Pieces
 pub mod Positions
+pub mod Runs
 pub mod Session
 pub mod Strobe

@@ -8,7 +8,8 @@ use crate::flags::Flags;
 use crate::session::Session;
 
 impl Session {
-    fn well_formed(self) -> bool
+    // The positions are in order, and the last operation is none or one of the twenty.
+    pub fn well_formed(self) -> bool
         ensures { λ r. ⌜ r ≡ wellFormed (rateOf (self .level)) (seen self) ⌝ }
     {
         let level = self.level;

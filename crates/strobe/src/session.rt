@@ -65,21 +65,21 @@ fn unnamed(level: Level) -> Session
     }
 }
 
-// What a refused creation gives: every call on it gets NotASession.
-fn blank() -> Session
-    ensures { λ r. ⌜ r ≡ blank ⌝ }
-{
-    Session {
-        state: [0u8; 200],
-        level: Level::B128,
-        pos: 166,
-        begin: 166,
-        direction: Direction::Neither,
-        last: Last::Nothing,
-    }
-}
-
 impl Session {
+    // What a refused creation or load gives: every call on it gets NotASession.
+    pub fn blank() -> Session
+        ensures { λ r. ⌜ r ≡ blank ⌝ }
+    {
+        Session {
+            state: [0u8; 200],
+            level: Level::B128,
+            pos: 166,
+            begin: 166,
+            direction: Direction::Neither,
+            last: Last::Nothing,
+        }
+    }
+
     // A fresh session for a protocol; it is never refused.
     pub fn new(proto: &[u8], level: Level) -> Outcome
         ensures { λ r. ⌜ Is (freshAt level (now (proto .entry))) r ⌝ }
@@ -98,7 +98,7 @@ impl Session {
             return Session::new(proto, Level::B256);
         }
         Outcome {
-            session: blank(),
+            session: Session::blank(),
             answer: Answer::NoLevel,
         }
     }

@@ -1,0 +1,31 @@
+-- An edition whose bytes fit. Assumes nothing.
+use mathlib.Core.Path.{sym, _∙_}
+use native.Mathlib.Omega.{arith}
+use borrow.Author.Needs.{needs}
+use borrow.Author.Tests.{not-true, not-false}
+use Rattle.saved.proofs.Forms.{edition-length}
+use Rattle.saved.proofs.is_form.Statement.{statement}
+use Rattle.saved.proofs.is_form.Tie as tie
+
+returns : tie.Need-returns
+returns c = rw (sym (c .before .is-edition .ensures) ∙ not-true _ (c .if1 .taken))
+
+shared-slice-read-fits : tie.Need-shared-slice-read-fits
+shared-slice-read-fits c = omega (arith, edition-length _ (sym (c .before .before .is-edition .ensures) ∙ not-false _ (c .before .if1 .left)))
+
+shared-slice-read-fits-2 : tie.Need-shared-slice-read-fits-2
+shared-slice-read-fits-2 c = omega (arith, edition-length _ (sym (c .before .before .before .is-edition .ensures) ∙ not-false _ (c .before .before .if1 .left)))
+
+shared-slice-read-fits-3 : tie.Need-shared-slice-read-fits-3
+shared-slice-read-fits-3 c = omega (arith, edition-length _ (sym (c .before .before .before .before .is-edition .ensures) ∙ not-false _ (c .before .before .before .if1 .left)))
+
+shared-slice-read-fits-4 : tie.Need-shared-slice-read-fits-4
+shared-slice-read-fits-4 c = omega (arith, edition-length _ (sym (c .before .before .before .before .before .is-edition .ensures) ∙ not-false _ (c .before .before .before .before .if1 .left)))
+
+returns-2 : tie.Need-returns-2
+returns-2 c = rw (sym (c .before .before .before .before .before .before .is-edition .ensures) ∙ not-false _ (c .before .before .before .before .before .if1 .left)) (c .fits2 .ensures)
+
+pub is-form-spec : {M : Type 1} → statement M
+is-form-spec =
+    tie.close
+    (tie.spec (λ c κs. search needs) returns shared-slice-read-fits shared-slice-read-fits-2 shared-slice-read-fits-3 shared-slice-read-fits-4 (λ c κs. search needs) returns-2)

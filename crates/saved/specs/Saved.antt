@@ -1,0 +1,96 @@
+-- The saved form, edition 1 (docs/FORMATS.md, section 1): its bytes, what a load makes of any bytes, what a save does.
+use mathlib.Core.Bool.{Bool, not, cond, _&&_, _||_}
+use mathlib.Core.List.{List, _∷_, _++_}
+use mathlib.Core.Path.{_≡_}
+use Prim.Native.Nat.{ℕ}
+use lib.Dec.{eqb, leb, ltb}
+use lib.ListN.{length, getD, take, drop}
+use Rattle.strobe.specs.Answer.{number, done, notASession, badSaved, shortBuffer}
+use Rattle.strobe.specs.Session.{rateOf, seen, Given, given, blank}
+use Rattle.strobe.specs.Strobe.{wellFormed}
+use Rattle.strobe.specs.declared.answer.Answer.{Answer}
+use Rattle.strobe.specs.declared.direction.Direction.{Direction}
+use Rattle.strobe.specs.declared.direction.Direction.the-variants.{Neither, Sender, Receiver}
+use Rattle.strobe.specs.declared.last.Last.the-variants.{Nothing}
+use Rattle.strobe.specs.declared.level.Level.{Level}
+use Rattle.strobe.specs.declared.level.Level.the-variants.{B128, B256}
+use Rattle.strobe.specs.declared.session.Session.{Session}
+
+-- ---- the bytes in their order: edition, level, position, begin position, direction, state
+
+abbrev pub edition : ℕ
+edition = 1
+
+abbrev pub size : ℕ
+size = 205
+
+abbrev pub levelByte : Level → ℕ
+levelByte B128 = 1
+levelByte B256 = 2
+
+abbrev pub directionByte : Direction → ℕ
+directionByte Neither = 0
+directionByte Sender = 1
+directionByte Receiver = 2
+
+unfoldable pub form : Session → List ℕ
+form s = edition ∷ levelByte (s .level) ∷ s .pos ∷ s .begin ∷ directionByte (s .direction) ∷ s .state
+
+-- ---- a load
+
+abbrev pub at : List ℕ → ℕ → ℕ
+at bs i = getD bs i 0
+
+-- asked only of a level's byte and of a direction's byte
+abbrev pub levelOf : ℕ → Level
+levelOf b = cond (eqb b 1) B128 B256
+
+abbrev pub directionOf : ℕ → Direction
+directionOf b = cond (eqb b 0) Neither (cond (eqb b 1) Sender Receiver)
+
+unfoldable pub isEdition : List ℕ → Bool
+isEdition bs = eqb (length bs) size && eqb (at bs 0) edition
+
+-- the four bytes behind the edition: the level is one, the position is below its rate, the begin position is at most the position, the direction is one
+unfoldable pub fits : ℕ → ℕ → ℕ → ℕ → Bool
+fits level pos begin direction =
+    (eqb level 1 || eqb level 2)
+    && (ltb pos (rateOf (levelOf level)) && (leb begin pos && leb direction 2))
+
+abbrev pub isForm : List ℕ → Bool
+isForm bs = isEdition bs && fits (at bs 1) (at bs 2) (at bs 3) (at bs 4)
+
+-- a load sets no last operation
+unfoldable pub sessionIn : List ℕ → Session
+sessionIn bs =
+    record {
+      state = take 200 (drop 5 bs);
+      level = levelOf (at bs 1);
+      pos = at bs 2;
+      begin = at bs 3;
+      direction = directionOf (at bs 4);
+      last = Nothing;
+    }
+
+unfoldable pub loaded : List ℕ → Given
+loaded bs = cond (isForm bs) (given done (sessionIn bs)) (given badSaved blank)
+
+-- ---- a save
+
+-- the answer and the lent bytes; the session stays as it was
+pub record Saving : Type 0 where
+  pub answer : ℕ
+  pub lent : List ℕ
+
+-- 8, then 11; a longer buffer keeps its rest
+unfoldable pub saving : Session → List ℕ → Saving
+saving s bs =
+    cond (not (wellFormed (rateOf (s .level)) (seen s))) (record { answer = notASession; lent = bs })
+    (cond (ltb (length bs) size) (record { answer = shortBuffer; lent = bs })
+    (record { answer = done; lent = form s ++ drop size bs }))
+
+-- ---- what `save` promises
+
+pub record Saves (s : Session) (bs : List ℕ) (r : Answer) (bs′ : List ℕ) : Type 0 where
+  pub answer : number r ≡ saving s bs .answer
+  pub lent : bs′ ≡ saving s bs .lent
