@@ -1,11 +1,12 @@
 -- What the tests of a load and of a save settle. Assumes nothing.
 use Prim.Native.Nat.{ℕ, _≤_, _<_}
-use mathlib.Core.Path.{_≡_, refl}
+use mathlib.Core.Path.{_≡_}
 use mathlib.Core.List.{List, _++_}
-use mathlib.Core.Bool.{Bool, true, false, _&&_}
+use mathlib.Core.Bool.{true, false}
 use lib.Dec.{eqb}
 use lib.ListN.{length, drop}
 use borrow.Author.Tests.{eqb-true, lt-ltb, le-ltb}
+use Rattle.laws.proofs.Bools.{and-left}
 use Rattle.strobe.specs.Answer.{done, badSaved}
 use Rattle.strobe.specs.Session.{rateOf, seen, given, blank}
 use Rattle.strobe.specs.Strobe.{wellFormed}
@@ -13,17 +14,13 @@ use Rattle.strobe.specs.declared.answer.Answer.the-variants.{Done, NotASession,
 use Rattle.strobe.specs.declared.session.Session.{Session}
 use Rattle.saved.specs.Saved.{size, form, isEdition, isForm, sessionIn, loaded, saving, Saves}
 
-first : (a b : Bool) → a && b ≡ true → a ≡ true
-first true b e = refl
-first false b e = e
-
 -- a saved form has the length of one
 pub edition-length : (bs : List ℕ) → isEdition bs ≡ true → length bs ≡ size
 unfolding isEdition
-edition-length bs e = eqb-true (length bs) size (first (eqb (length bs) size) _ e)
+edition-length bs e = eqb-true (length bs) size (and-left (eqb (length bs) size) _ e)
 
 pub form-length : (bs : List ℕ) → isForm bs ≡ true → length bs ≡ size
-form-length bs e = edition-length bs (first (isEdition bs) _ e)
+form-length bs e = edition-length bs (and-left (isEdition bs) _ e)
 
 pub no-form : (bs : List ℕ) → isForm bs ≡ false → loaded bs ≡ given badSaved blank
 unfolding loaded

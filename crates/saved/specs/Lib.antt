@@ -1,1 +1,2 @@
+pub mod AfterLoad
 pub mod Saved

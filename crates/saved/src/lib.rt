@@ -92,16 +92,12 @@ fn is_form(bytes: &[u8]) -> bool
 }
 
 // The state bytes of a saved form.
-fn state_in(bytes: &[u8]) -> [u8; 200]
-    requires { ⌜ size ≤ length (now bytes) ⌝ }
-    ensures { λ r. ⌜ r ≡ take 200 (drop 5 (now (bytes .entry))) ⌝ }
+fn state_in(form: &[u8]) -> [u8; 200]
+    requires { ⌜ size ≤ length (now form) ⌝ }
+    ensures { λ r. ⌜ r ≡ take 200 (drop 5 (now (form .entry))) ⌝ }
 {
     let mut state = [0u8; 200];
-    let mut i: usize = 0;
-    while i < 200 {
-        state[i] = bytes[i + 5];
-        i += 1;
-    }
+    bytes::copy(&form[5..SIZE], &mut state);
     state
 }
 
@@ -139,11 +135,7 @@ fn write_form(level: u8, pos: u8, begin: u8, direction: u8, state: [u8; 200], bu
     buf[2] = pos;
     buf[3] = begin;
     buf[4] = direction;
-    let mut i: usize = 0;
-    while i < 200 {
-        buf[i + 5] = state[i];
-        i += 1;
-    }
+    bytes::copy(&state, &mut buf[5..SIZE]);
 }
 
 // Writes the saved form to the front of a buffer and leaves the rest of a longer one alone. A session that is not well formed gets NotASession, fewer

@@ -161,7 +161,7 @@ module _ (sp : Sponge) where
   opened-last s f true e = not-false (isLast (s .last) f) e
   opened-last s f false e = eq-eqb (f .0) (f .0) refl
 
-  opened-known : (s : Strobe) (f : Flags) (more : Bool) → knownLast (s .last) ≡ true → known (operation f) ≡ true → knownLast (opened sp s f more .last) ≡ true
+  pub opened-known : (s : Strobe) (f : Flags) (more : Bool) → knownLast (s .last) ≡ true → known (operation f) ≡ true → knownLast (opened sp s f more .last) ≡ true
   unfolding opened
   opened-known s f true e k = e
   opened-known s f false e k = k

@@ -7,6 +7,7 @@ use lib.Dec.{eqb, ltb, leb, lit≤}
 use lib.ListN.{length, replicate, length-replicate}
 use borrow.Author.Tests.{lt-ltb, ltb-true, le-leb, leb-true}
 use native.Mathlib.Omega.{arith}
+use Rattle.laws.proofs.Bools.{and-left, and-right}
 use Rattle.strobe.specs.Duplex.{Sponge, Duplex, Rule, close, step, after, met, same}
 use Rattle.strobe.specs.Flags.{C, K, META-AD, has, operationOf, operation, isRecvMac, absorbing, zeroing, overwriting, ruleOf}
 use Rattle.strobe.specs.Loops.{at, duplexOf, Room, Fed, Ran, strobeOf}
@@ -46,14 +47,6 @@ disagrees-bit Sender i = cond-bit i
 disagrees-bit Receiver i = cond-no-bit i
 
 -- ---- a session that passed the tests may be worked on
-
-and-left : (a b : Bool) → a && b ≡ true → a ≡ true
-and-left true b e = refl
-and-left false b e = e
-
-and-right : (a b : Bool) → a && b ≡ true → b ≡ true
-and-right true b e = e
-and-right false b e = let z : _≡_ {A = ℕ} 0 1 = cc in absurd (omega arith)
 
 well : (w : Bool) (n : ℕ) → cond (not w) 8 n ≡ 0 → w ≡ true
 well true n e = refl

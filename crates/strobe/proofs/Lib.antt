@@ -9,4 +9,5 @@ pub mod Loops
 pub mod Positions
 pub mod Promise
 pub mod Refused
+pub mod Runs
 pub mod Twenty

@@ -1,0 +1,221 @@
+-- A load undoes a save but for the last operation, a save undoes a load, a loaded session never gets 8, and refused bytes give a blank. Assumes nothing.
+use Prim.Native.Nat.{ℕ, _≤_, _<_}
+use mathlib.Core.Path.{_≡_, refl, sym, ap, _∙_}
+use mathlib.Core.List.{List, [], _∷_, append-nil}
+use mathlib.Core.Bool.{Bool, true, false, cond, _||_}
+use mathlib.Core.Logic.{_↔_}
+use lib.Dec.{eqb, leb, ltb}
+use lib.ListN.{length, take, drop, length-drop, drop-of-length-le}
+use lib.Seq.{take-all, drop-cons, take-at, drop-at, length-take-le}
+use borrow.Author.Tests.{eqb-true, eqb-false, ltb-true, leb-true, lt-ltb, le-ltb, le-leb}
+use native.Mathlib.Omega.{arith}
+use Rattle.laws.proofs.Bools.{and-left, and-right}
+use Rattle.strobe.proofs.Calls.{well-ordered, ordered-well}
+use Rattle.strobe.proofs.Refused.{blank-refused}
+use Rattle.strobe.proofs.Runs.{well-never-8, ran-never-8}
+use Rattle.strobe.specs.Answer.{done, notASession, badSaved, refuses}
+use Rattle.strobe.specs.Runs.{Call, effect, ran}
+use Rattle.strobe.specs.Session.{rateOf, spongeOf, seen, held, Given, given, blank}
+use Rattle.strobe.specs.Strobe.{wellFormed, call}
+use Rattle.strobe.specs.declared.direction.Direction.{Direction}
+use Rattle.strobe.specs.declared.direction.Direction.the-variants.{Neither, Sender, Receiver}
+use Rattle.strobe.specs.declared.flags.Flags.{Flags}
+use Rattle.strobe.specs.declared.level.Level.{Level}
+use Rattle.strobe.specs.declared.level.Level.the-variants.{B128, B256}
+use Rattle.strobe.specs.declared.session.Session.{Session}
+use Rattle.saved.specs.AfterLoad.{withoutLast}
+use Rattle.saved.specs.Saved.{edition, size, levelByte, directionByte, form, at, levelOf, directionOf, isEdition, fits, isForm, sessionIn, loaded, saving}
+use Rattle.saved.proofs.Forms.{a-form}
+
+-- ---- the two bytes that are no numbers, there and back
+
+level-byte-one-of-two : (l : Level) → eqb (levelByte l) 1 || eqb (levelByte l) 2 ≡ true
+level-byte-one-of-two B128 = refl
+level-byte-one-of-two B256 = refl
+
+level-of-byte : (l : Level) → levelOf (levelByte l) ≡ l
+level-of-byte B128 = refl
+level-of-byte B256 = refl
+
+direction-byte-small : (d : Direction) → leb (directionByte d) 2 ≡ true
+direction-byte-small Neither = refl
+direction-byte-small Sender = refl
+direction-byte-small Receiver = refl
+
+direction-of-byte : (d : Direction) → directionOf (directionByte d) ≡ d
+direction-of-byte Neither = refl
+direction-of-byte Sender = refl
+direction-of-byte Receiver = refl
+
+level-byte-of : (b : ℕ) → eqb b 1 || eqb b 2 ≡ true → levelByte (levelOf b) ≡ b
+level-byte-of b h = go (eqb b 1) refl h
+  where
+    go : (t : Bool) → eqb b 1 ≡ t → t || eqb b 2 ≡ true → levelByte (cond t B128 B256) ≡ b
+    go true e h = sym (eqb-true b 1 e)
+    go false e h = sym (eqb-true b 2 h)
+
+direction-byte-of : (b : ℕ) → leb b 2 ≡ true → directionByte (directionOf b) ≡ b
+direction-byte-of b h = go (eqb b 0) refl (eqb b 1) refl
+  where
+    go : (t : Bool) → eqb b 0 ≡ t → (u : Bool) → eqb b 1 ≡ u → directionByte (cond t Neither (cond u Sender Receiver)) ≡ b
+    go true e u d = sym (eqb-true b 0 e)
+    go false e true d = sym (eqb-true b 1 d)
+    go false e false d =
+        let small : b ≤ 2 = leb-true b 2 h in
+        let not-zero : b ≡ 0 → ⊥ = eqb-false b 0 e in
+        let not-one : b ≡ 1 → ⊥ = eqb-false b 1 d in
+        omega arith
+
+-- ---- a form that was saved loads
+
+form-size : (s : Session) → length (s .state) ≡ 200 → length (form s) ≡ size
+unfolding form
+form-size s e = rw e
+
+pub load-of-save : (s : Session) → length (s .state) ≡ 200 → wellFormed (rateOf (s .level)) (seen s) ≡ true
+    → loaded (form s) ≡ given done (held (s .level) (withoutLast (seen s)))
+unfolding loaded form isEdition fits sessionIn
+load-of-save s e w =
+    let o = well-ordered (rateOf (s .level)) (seen s) w in
+    let whole : take 200 (s .state) ≡ s .state = take-all 200 (s .state) (omega arith) in
+    rw (
+      e,
+      level-byte-one-of-two (s .level),
+      level-of-byte (s .level),
+      lt-ltb (s .pos) (rateOf (s .level)) (o .below),
+      le-leb (s .begin) (s .pos) (o .begun),
+      direction-byte-small (s .direction),
+      direction-of-byte (s .direction),
+      whole,
+    )
+
+-- as the calls see it, it is the session that was saved without its last operation
+pub load-forgets-the-last : (s : Session) → length (s .state) ≡ 200 → wellFormed (rateOf (s .level)) (seen s) ≡ true
+    → seen (loaded (form s) .session) ≡ withoutLast (seen s)
+load-forgets-the-last s e w = ap (λ (g : Given). seen (g .session)) (load-of-save s e w)
+
+-- whatever else the buffer holds: the front is the form, the rest stays
+pub saved-front : (s : Session) (bs : List ℕ) → wellFormed (rateOf (s .level)) (seen s) ≡ true → size ≤ length bs → length (s .state) ≡ 200
+    → (saving s bs .answer ≡ done) × (take size (saving s bs .lent) ≡ form s) × (drop size (saving s bs .lent) ≡ drop size bs)
+unfolding saving
+saved-front s bs w h e =
+    let n = form-size s e in
+    rw (w, le-ltb (length bs) size h) (refl, take-at (form s) (drop size bs) size n, drop-at (form s) (drop size bs) size n)
+
+pub saved-front-loads : (s : Session) (bs : List ℕ) → wellFormed (rateOf (s .level)) (seen s) ≡ true → size ≤ length bs → length (s .state) ≡ 200
+    → loaded (take size (saving s bs .lent)) ≡ given done (held (s .level) (withoutLast (seen s)))
+saved-front-loads s bs w h e = ap loaded (saved-front s bs w h e .1) ∙ load-of-save s e w
+
+-- ---- what a load has seen of the bytes
+
+record Fitting (bs : List ℕ) : Type 0 where
+  long : length bs ≡ size
+  first : at bs 0 ≡ edition
+  level : eqb (at bs 1) 1 || eqb (at bs 1) 2 ≡ true
+  below : at bs 2 < rateOf (levelOf (at bs 1))
+  begun : at bs 3 ≤ at bs 2
+  direction : leb (at bs 4) 2 ≡ true
+  session : loaded bs ≡ given done (sessionIn bs)
+
+done-form : (bs : List ℕ) → loaded bs .answer ≡ done → isForm bs ≡ true
+unfolding loaded
+done-form bs e = go (isForm bs) e
+  where
+    go : (t : Bool) → cond t (given done (sessionIn bs)) (given badSaved blank) .answer ≡ done → t ≡ true
+    go true e = refl
+    go false e = absurd (omega arith)
+
+fitting : (bs : List ℕ) → loaded bs .answer ≡ done → Fitting bs
+unfolding isEdition fits
+fitting bs e =
+    let both = done-form bs e in
+    let here = and-left (isEdition bs) _ both in
+    let there = and-right (isEdition bs) (fits (at bs 1) (at bs 2) (at bs 3) (at bs 4)) both in
+    let behind-level = and-right (eqb (at bs 1) 1 || eqb (at bs 1) 2) _ there in
+    let behind-pos = and-right (ltb (at bs 2) (rateOf (levelOf (at bs 1)))) _ behind-level in
+    record {
+      long = eqb-true (length bs) size (and-left (eqb (length bs) size) _ here);
+      first = eqb-true (at bs 0) edition (and-right (eqb (length bs) size) _ here);
+      level = and-left (eqb (at bs 1) 1 || eqb (at bs 1) 2) _ there;
+      below = ltb-true _ _ (and-left (ltb (at bs 2) (rateOf (levelOf (at bs 1)))) _ behind-level);
+      begun = leb-true _ _ (and-left (leb (at bs 3) (at bs 2)) (leb (at bs 4) 2) behind-pos);
+      direction = and-right (leb (at bs 3) (at bs 2)) (leb (at bs 4) 2) behind-pos;
+      session = a-form bs both;
+    }
+
+-- ---- what was loaded saves as the same bytes
+
+five-and-rest : (bs : List ℕ) → 5 ≤ length bs → at bs 0 ∷ at bs 1 ∷ at bs 2 ∷ at bs 3 ∷ at bs 4 ∷ drop 5 bs ≡ bs
+five-and-rest bs h =
+    sym
+    (drop-cons bs 0 0 (omega arith)
+    ∙ ap (λ (l : List ℕ). at bs 0 ∷ l) (drop-cons bs 1 0 (omega arith))
+    ∙ ap (λ (l : List ℕ). at bs 0 ∷ at bs 1 ∷ l) (drop-cons bs 2 0 (omega arith))
+    ∙ ap (λ (l : List ℕ). at bs 0 ∷ at bs 1 ∷ at bs 2 ∷ l) (drop-cons bs 3 0 (omega arith))
+    ∙ ap (λ (l : List ℕ). at bs 0 ∷ at bs 1 ∷ at bs 2 ∷ at bs 3 ∷ l) (drop-cons bs 4 0 h))
+
+state-size : (bs : List ℕ) → length bs ≡ size → length (drop 5 bs) ≡ 200
+state-size bs e = length-drop 5 bs ∙ omega arith
+
+pub save-of-load : (bs : List ℕ) → loaded bs .answer ≡ done → form (loaded bs .session) ≡ bs
+unfolding form sessionIn
+save-of-load bs e =
+    let f = fitting bs e in
+    let n = state-size bs (f .long) in
+    rw (f .session, level-byte-of (at bs 1) (f .level), direction-byte-of (at bs 4) (f .direction), take-all 200 (drop 5 bs) (omega arith))
+    (ap (λ (n : ℕ). n ∷ at bs 1 ∷ at bs 2 ∷ at bs 3 ∷ at bs 4 ∷ drop 5 bs) (sym (f .first)) ∙ five-and-rest bs (omega (arith, f .long)))
+
+-- ---- a session that was loaded
+
+pub loaded-well : (bs : List ℕ) → loaded bs .answer ≡ done → wellFormed (rateOf (loaded bs .session .level)) (seen (loaded bs .session)) ≡ true
+unfolding sessionIn
+loaded-well bs e =
+    let f = fitting bs e in
+    rw (f .session) (ordered-well (rateOf (levelOf (at bs 1))) (seen (sessionIn bs)) (record { below = f .below; begun = f .begun }) refl)
+
+loaded-size : (bs : List ℕ) → loaded bs .answer ≡ done → length (loaded bs .session .state) ≡ 200
+unfolding sessionIn
+loaded-size bs e =
+    let f = fitting bs e in
+    let n = state-size bs (f .long) in
+    rw (f .session) (length-take-le 200 (drop 5 bs) (omega arith))
+
+-- into a buffer of the form's size
+pub save-of-load-fills : (bs buf : List ℕ) → loaded bs .answer ≡ done → length buf ≡ size
+    → (saving (loaded bs .session) buf .answer ≡ done) × (saving (loaded bs .session) buf .lent ≡ bs)
+unfolding saving
+save-of-load-fills bs buf e n =
+    let none : drop size buf ≡ [] = drop-of-length-le buf {i = size} (omega arith) in
+    rw (loaded-well bs e, le-ltb (length buf) size (omega arith)) (refl, rw (none, append-nil) (save-of-load bs e))
+
+-- the loads that are done are those of the forms of well-formed sessions
+pub loads-exactly-the-forms : (bs : List ℕ)
+    → (loaded bs .answer ≡ done) ↔ ((s : Session) × (length (s .state) ≡ 200) × (wellFormed (rateOf (s .level)) (seen s) ≡ true) × (form s ≡ bs))
+loads-exactly-the-forms bs = (
+  λ e. (loaded bs .session, loaded-size bs e, loaded-well bs e, save-of-load bs e),
+  λ h. ap (λ (b : List ℕ). loaded b .answer) (sym (h .3)) ∙ ap (λ (g : Given). g .answer) (load-of-save (h .0) (h .1) (h .2)),
+)
+
+pub loaded-never-8 : (bs : List ℕ) → loaded bs .answer ≡ done → (f : Flags) (more : Bool) (xs : List ℕ)
+    → call (spongeOf (loaded bs .session .level)) (seen (loaded bs .session)) f more xs .answer ≡ notASession → ⊥
+loaded-never-8 bs e f more xs = well-never-8 (spongeOf (loaded bs .session .level)) (seen (loaded bs .session)) f more xs (loaded-well bs e)
+
+-- nor any call behind others
+pub loaded-ran-never-8 : (bs : List ℕ) → loaded bs .answer ≡ done → (cs : List Call) (c : Call)
+    → let sp = spongeOf (loaded bs .session .level) in
+    effect sp (ran sp (seen (loaded bs .session)) cs) c .answer ≡ notASession → ⊥
+loaded-ran-never-8 bs e cs c = ran-never-8 (spongeOf (loaded bs .session .level)) (seen (loaded bs .session)) cs c (loaded-well bs e)
+
+-- ---- bytes that are refused
+
+pub refused-load-blank : (bs : List ℕ) → refuses (loaded bs .answer) ≡ true → loaded bs .session ≡ blank
+unfolding loaded
+refused-load-blank bs e = go (isForm bs) e
+  where
+    go : (t : Bool) → let g = cond t (given done (sessionIn bs)) (given badSaved blank) in refuses (g .answer) ≡ true → g .session ≡ blank
+    go true e = let z : _≡_ {A = ℕ} 0 1 = cc in absurd (omega arith)
+    go false e = refl
+
+pub refused-load-refuses : (bs : List ℕ) → refuses (loaded bs .answer) ≡ true → (f : Flags) (more : Bool) (xs : List ℕ)
+    → let s = loaded bs .session in call (spongeOf (s .level)) (seen s) f more xs ≡ record { answer = notASession; strobe = seen s; lent = xs }
+refused-load-refuses bs e f more xs = rw (refused-load-blank bs e) (blank-refused f more xs)
