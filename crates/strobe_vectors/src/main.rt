@@ -2,6 +2,7 @@
 // program, vectors/strobe_vectors.py, computed for the same calls.
 mod data;
 mod ends;
+mod forms;
 mod line;
 mod merlin;
 mod named;
@@ -25,4 +26,5 @@ fn main() {
     pieces::write();
     refusals::write();
     merlin::write();
+    forms::write();
 }
