@@ -1,0 +1,38 @@
+-- A seat's turn: one session through four calls.
+use mathlib.Core.Bool.{Bool, false}
+use mathlib.Core.List.{List}
+use mathlib.Core.Path.{_≡_}
+use Prim.Native.Nat.{ℕ}
+use lib.ListN.{replicate}
+use Rattle.strobe.specs.Answer.{number}
+use Rattle.strobe.specs.Flags.{AD, RATCHET}
+use Rattle.strobe.specs.Session.{spongeOf, seen, held}
+use Rattle.strobe.specs.Strobe.{Effect, call}
+use Rattle.strobe.specs.declared.flags.Flags.{Flags}
+use Rattle.strobe.specs.declared.session.Session.{Session}
+use Rattle.saved.specs.Saved.{Saves}
+use Rattle.lent.specs.declared.turn.Turn.{Turn}
+
+-- what comes of a call, and the session behind it
+abbrev pub effect : Session → Flags → Bool → List ℕ → Effect
+effect s f more bs = call (spongeOf (s .level)) (seen s) f more bs
+
+abbrev pub behind : Session → Flags → Bool → List ℕ → Session
+behind s f more bs = held (s .level) (effect s f more bs .strobe)
+
+abbrev pub noted : Session → List ℕ → Session
+noted s event = behind s AD false event
+
+abbrev pub called : Session → List ℕ → Flags → Bool → List ℕ → Session
+called s event f more bs = behind (noted s event) f more bs
+
+abbrev pub ratcheted : Session → List ℕ → Flags → Bool → List ℕ → ℕ → Session
+ratcheted s event f more bs n = behind (called s event f more bs) RATCHET false (replicate n 0)
+
+pub record Turned (s : Session) (event : List ℕ) (f : Flags) (more : Bool) (bs : List ℕ) (n : ℕ) (form : List ℕ) (r : Turn) (bs′ form′ : List ℕ) : Type 0 where
+  pub note-answer : number (r .noted) ≡ effect s AD false event .answer
+  pub call-answer : number (r .called) ≡ effect (noted s event) f more bs .answer
+  pub lent : bs′ ≡ effect (noted s event) f more bs .lent
+  pub ratchet-answer : number (r .ratcheted) ≡ effect (called s event f more bs) RATCHET false (replicate n 0) .answer
+  pub session : r .session ≡ ratcheted s event f more bs n
+  pub saves : Saves (ratcheted s event f more bs n) form (r .saved) form′
