@@ -287,6 +287,33 @@ def forms(lines):
         lines.outcome(answer, blank(), data)
 
 
+def turn(lines, session, flags, more, n, count=32, room=210):
+    """A seat's turn: an event, an operation, dice, a ratchet, a save."""
+    buf, data = counting(0, 70), bytes(210)
+    noted, _ = session.call(AD, False, b"north won")
+    called, lent = session.call(flags, more, buf[:n])
+    drawn, dice = session.call(PRF, False, bytes(20))
+    ratcheted, _ = session.call(RATCHET, False, bytes(count))
+    saved, form = save(session, data[:room])
+    lines.outcome(called, session, lent + buf[n:])
+    answers = bytes([noted, called, drawn, ratcheted, saved])
+    lines.lines.append(
+        f"{answers.hex()} {dice.hex()} {(form + data[room:]).hex()}")
+
+
+def turns(lines):
+    """Turns on a lent session."""
+    session = fresh(NAME, 128)
+    for flags in range(K):
+        turn(lines, session, flags, False, 20)
+    turn(lines, session, AD, True, 70)
+    turn(lines, copy.deepcopy(session), 0x22, False, 1)
+    turn(lines, copy.deepcopy(session), SEND_ENC, True, 1)
+    turn(lines, copy.deepcopy(session), RECV_MAC, False, 65)
+    turn(lines, copy.deepcopy(session), RECV_MAC, False, 64, 65537, 204)
+    turn(lines, blank(), SEND_ENC, False, 5)
+
+
 def all_lines():
     """What the program writes."""
     lines = Lines()
@@ -300,6 +327,7 @@ def all_lines():
     refusals(lines)
     lines.lines.append(merlin().hex())
     forms(lines)
+    turns(lines)
     return lines.lines
 
 

@@ -1,4 +1,4 @@
--- The four thin calls as an owner of a session uses them (`Owner.antt`): what each asks of a loan, and what it gives back with its promise. Assumes `Given`.
+-- The five thin calls as an owner of a session uses them (`Owner.antt`): what each asks of a loan, and what it gives back with its promise. Assumes nothing.
 use mathlib.Core.Path.{_≡_, refl, ap}
 use mathlib.Core.Bool.{Bool, false}
 use Prim.Native.Nat.{ℕ, _<_, _^_}
@@ -26,7 +26,7 @@ use denote.Struct.Laws as LL
 use denote.Triple.Statement.{Contract}
 use denote.Triple.Clauses.{ensured, lasts}
 use denote.Triple.Spec.{tripleOf}
-use Rattle.strobe.specs.Flags.{AD, RATCHET}
+use Rattle.strobe.specs.Flags.{AD, PRF, RATCHET}
 use Rattle.strobe.specs.Session.{Calls}
 use Rattle.strobe.specs.declared.answer.Answer.{Answer}
 use Rattle.strobe.specs.declared.flags.Flags.{Flags}
@@ -44,6 +44,7 @@ use Rattle.lent.proofs.Report as R
 use Rattle.lent.proofs.Report.Laws as R′
 use Rattle.lent.proofs.ad as ad
 use Rattle.lent.proofs.call as call
+use Rattle.lent.proofs.prf as prf
 use Rattle.lent.proofs.ratchet as ratchet
 use Rattle.lent.proofs.save as save
 
@@ -63,6 +64,9 @@ module _ {M : Type 1} (𝓤 : URA M) (H : Heap 𝓤) (A : Atoms 𝓤) (at-mem : 
 
   abbrev pub Call : Contract 𝓤
   Call = tripleOf 𝓤 H A call.signature (call.spec 𝓤 H A at-mem run)
+
+  abbrev pub Prf : Contract 𝓤
+  Prf = tripleOf 𝓤 H A prf.signature (prf.spec 𝓤 H A at-mem run)
 
   abbrev pub Ratchet : Contract 𝓤
   Ratchet = tripleOf 𝓤 H A ratchet.signature (ratchet.spec 𝓤 H A at-mem run)
@@ -128,6 +132,36 @@ module _ {M : Type 1} (𝓤 : URA M) (H : Heap 𝓤) (A : Atoms 𝓤) (W : Given
 
     abbrev pub call-loan : Is F.the-row fl (val-flags fl ∷ []) → MutLoan 𝓤 H A (Call 𝓤 H A at-mem run) l h (‵ (flft κ q) ⊛ ‵ (MutSlice (named 1) κ u8 .own buf (slice-vals buf)))
     call-loan is-fl = record { binds = to-call; goes = goes-call is-fl; Result = Report × List ℕ; value = λ r. val-report (r .0); Says = CallSays; also = CallAlso; comes = comes-call }
+
+  -- ---- `prf`, and the token and last list of what is drawn into come back
+  module _ (κ : Lft) (q : Share) (dice : RefT (List ℕ)) where
+    abbrev to-prf : ℕ → GName → Prf 𝓤 H A at-mem run .Ghost
+    to-prf ν γ = (((ν ∷ [], (κ, tt)), (fullShare, (q, tt)), tt, (ref l h γ, (dice, (false, tt))), (vptr l 0 ∷ [], (slice-vals dice, (vbool false ∷ [], tt)))), tt)
+
+    abbrev PrfSays : Report × List ℕ → Session → Type 0
+    PrfSays r z = IsReport (r .0) × (Calls h PRF false (now dice) (outcome z (r .0)) (r .1) × (length (r .1) ≡ length (now dice)))
+
+    abbrev PrfAlso : Report × List ℕ → Item 𝓤
+    PrfAlso r = ‵ (flft κ q) ⊛ ‵ (finally u8 (name dice) (r .1))
+
+    pub goes-prf : (ν : ℕ) (γ : GName) → ent 𝓤 (⋆ 𝓤 H A (‵ (alive ν) ∷ ‵ (lent-mut ν l h γ) ∷ (‵ (flft κ q) ⊛ ‵ (MutSlice (named 1) κ u8 .own dice (slice-vals dice))) ∷ [])) (Prf 𝓤 H A at-mem run .pre (to-prf ν γ))
+    goes-prf ν γ =
+        qed W (‵ (alive ν) ∷ ‵ (lent-mut ν l h γ) ∷ (‵ (flft κ q) ⊛ ‵ (MutSlice (named 1) κ u8 .own dice (slice-vals dice))) ∷ []) ∵
+        nothing ! $ owned ! bool (Is bool) (bool-makes 𝓤 H A W) false _ refl $ fjoin ! $ move ! (3 ∷ []) $ split ! $ move ! (1 ∷ 2 ∷ []) $ fjoin ! $ move ! (3 ∷ 0 ∷ []) $ fjoin ! $
+        nothing ! $ move ! (2 ∷ 0 ∷ []) $ join ! $ move ! (2 ∷ 0 ∷ []) $ join ! $ join ! $ frame ! $ done !
+
+    pub comes-prf : (ν : ℕ) (γ : GName) (w : Val) → ent 𝓤 (Prf 𝓤 H A at-mem run .post (to-prf ν γ) w) (mean 𝓤 H A (mut-back (λ r. val-report (r .0)) PrfSays PrfAlso ν γ w))
+    comes-prf ν γ w =
+        qed W (later (some (λ (r : Report). ((‵ (alive ν) ⊛ ‵ (flft κ q) ⊛ ‵ ftrue) ⊛ ‵ (R.the-row .own r (w ∷ []))) ⊛ raw (ensured 𝓤 H A prf.ended (prf.clauses 𝓤 H A at-mem run) (ν ∷ [], (κ, tt)) (ref l h γ, (dice, (false, tt))) tt r))) ∷ []) ∵
+        updating ! $ await ! tt $ pick ! (λ r. split ! $ move ! (1 ∷ []) $
+        use1 W (some (λ (zs : Session × (List ℕ × (Unit {0} × Unit {0}))). ‵ (lasts prf.ended (ν ∷ [], (κ, tt)) (ref l h γ, (dice, (false, tt))) zs) ⊛ raw (fact 𝓤 (Calls h PRF false (now dice) (outcome (zs .0) r) (zs .1 .0))))) (id⊢ 𝓤 _) $ pick ! (λ zs.
+        split ! $ move ! (1 ∷ []) $ heard ! (Calls h PRF false (now dice) (outcome (zs .0) r) (zs .1 .0)) (λ e. fsplit ! $ move ! (1 ∷ []) $ fsplit ! $ move ! (1 ∷ []) $ drop ! $ fsplit ! $ move ! (1 ∷ []) $ feqL ! (λ same.
+        -- [the last list; the session's last value; the tokens and the result]
+        move ! (2 ∷ []) $ split ! $ move ! (1 ∷ []) $ facts ! R.the-row (Is R.the-row) (shows 𝓤 H A R.the-row) r (w ∷ []) (λ is-r. split ! $ move ! (1 ∷ []) $ split ! $ move ! (1 ∷ 0 ∷ []) $ drop ! $
+        move ! (0 ∷ 2 ∷ []) $ join ! $ move ! (1 ∷ 2 ∷ 0 ∷ []) $ by ! (gives-mut-back 𝓤 H A W (λ r. val-report (r .0)) PrfSays PrfAlso ν γ w (r, zs .1 .0) (zs .0) (report-told r w is-r .0) (report-told r w is-r .1, (e, same))))))))
+
+    abbrev pub prf-loan : MutLoan 𝓤 H A (Prf 𝓤 H A at-mem run) l h (‵ (flft κ q) ⊛ ‵ (MutSlice (named 1) κ u8 .own dice (slice-vals dice)))
+    prf-loan = record { binds = to-prf; goes = goes-prf; Result = Report × List ℕ; value = λ r. val-report (r .0); Says = PrfSays; also = PrfAlso; comes = comes-prf }
 
   -- ---- `ratchet`, which takes nothing else that is lent
   module _ (n : ℕ) where

@@ -1,4 +1,4 @@
--- A caller owns a session in a local and lends it for one call, by `&mut` or by `&`: the local's cell is put into a borrow for a lifetime of the call, and taken out again. Assumes `Given`.
+-- A caller owns a session in a local and lends it for one call, by `&mut` or by `&`: the local's cell is put into a borrow for a lifetime of the call, and taken out again. Assumes nothing.
 --     lies-in          a cell that holds the session h, which is one  ⊢  h lies there
 --     lies-out         h lies there  ⊢  ⌜h is a session⌝ ∗ a cell that holds it
 --     MutLoan          what an owner has to know of a call that is lent the session by `&mut`: what it asks, and what it gives back.        ShrLoan      the same by `&`

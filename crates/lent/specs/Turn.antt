@@ -1,11 +1,11 @@
--- A seat's turn: one session through four calls.
+-- A seat's turn: one session through five calls.
 use mathlib.Core.Bool.{Bool, false}
 use mathlib.Core.List.{List}
 use mathlib.Core.Path.{_≡_}
 use Prim.Native.Nat.{ℕ}
 use lib.ListN.{replicate}
 use Rattle.strobe.specs.Answer.{number}
-use Rattle.strobe.specs.Flags.{AD, RATCHET}
+use Rattle.strobe.specs.Flags.{AD, PRF, RATCHET}
 use Rattle.strobe.specs.Session.{spongeOf, seen, held}
 use Rattle.strobe.specs.Strobe.{Effect, call}
 use Rattle.strobe.specs.declared.flags.Flags.{Flags}
@@ -26,13 +26,18 @@ noted s event = behind s AD false event
 abbrev pub called : Session → List ℕ → Flags → Bool → List ℕ → Session
 called s event f more bs = behind (noted s event) f more bs
 
-abbrev pub ratcheted : Session → List ℕ → Flags → Bool → List ℕ → ℕ → Session
-ratcheted s event f more bs n = behind (called s event f more bs) RATCHET false (replicate n 0)
+abbrev pub drawn : Session → List ℕ → Flags → Bool → List ℕ → List ℕ → Session
+drawn s event f more bs dice = behind (called s event f more bs) PRF false dice
 
-pub record Turned (s : Session) (event : List ℕ) (f : Flags) (more : Bool) (bs : List ℕ) (n : ℕ) (form : List ℕ) (r : Turn) (bs′ form′ : List ℕ) : Type 0 where
+abbrev pub ratcheted : Session → List ℕ → Flags → Bool → List ℕ → List ℕ → ℕ → Session
+ratcheted s event f more bs dice n = behind (drawn s event f more bs dice) RATCHET false (replicate n 0)
+
+pub record Turned (s : Session) (event : List ℕ) (f : Flags) (more : Bool) (bs dice : List ℕ) (n : ℕ) (form : List ℕ) (r : Turn) (bs′ dice′ form′ : List ℕ) : Type 0 where
   pub note-answer : number (r .noted) ≡ effect s AD false event .answer
   pub call-answer : number (r .called) ≡ effect (noted s event) f more bs .answer
   pub lent : bs′ ≡ effect (noted s event) f more bs .lent
-  pub ratchet-answer : number (r .ratcheted) ≡ effect (called s event f more bs) RATCHET false (replicate n 0) .answer
-  pub session : r .session ≡ ratcheted s event f more bs n
-  pub saves : Saves (ratcheted s event f more bs n) form (r .saved) form′
+  pub draw-answer : number (r .drawn) ≡ effect (called s event f more bs) PRF false dice .answer
+  pub dice-lent : dice′ ≡ effect (called s event f more bs) PRF false dice .lent
+  pub ratchet-answer : number (r .ratcheted) ≡ effect (drawn s event f more bs dice) RATCHET false (replicate n 0) .answer
+  pub session : r .session ≡ ratcheted s event f more bs dice n
+  pub saves : Saves (ratcheted s event f more bs dice n) form (r .saved) form′

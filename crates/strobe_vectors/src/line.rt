@@ -4,6 +4,7 @@ use strobe::Answer;
 use strobe::Direction;
 use strobe::Last;
 use strobe::Outcome;
+use strobe::Session;
 
 // Two decimal digits.
 fn number(answer: Answer) -> [u8; 2] {
@@ -29,6 +30,18 @@ fn flags(last: Last) -> [u8; 2] {
         Last::Nothing => *b"--",
         Last::Op(f) => output::digits(f.0),
     }
+}
+
+// All of a session but its state.
+pub fn parts(session: Session) -> [u8; 6] {
+    let level = session.level;
+    let direction = session.direction;
+    let last = session.last;
+    let op = flags(last);
+    let pos = (session.pos % 256) as u8;
+    let begin = (session.begin % 256) as u8;
+    let rate = (level.rate() % 256) as u8;
+    [rate, pos, begin, end(direction), op[0], op[1]]
 }
 
 // The parts before the lent bytes, with the space after each.

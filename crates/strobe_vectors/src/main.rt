@@ -11,6 +11,7 @@ mod output;
 mod pieces;
 mod refusals;
 mod sequence;
+mod turns;
 mod version;
 
 use strobe::Level;
@@ -27,4 +28,5 @@ fn main() {
     refusals::write();
     merlin::write();
     forms::write();
+    turns::write();
 }

@@ -1,4 +1,5 @@
-// Two offices share a key. One sends an encrypted result with a MAC, and both draw the same dice. The example of docs/USING.md.
+// Two offices share a key. One sends an encrypted result with a MAC and saves its session overnight, and both draw the same dice. The example of
+// docs/USING.md.
 use libc::STDOUT_FILENO;
 use strobe::Answer;
 use strobe::Level;
@@ -35,6 +36,14 @@ fn receive(session: Session, text: &mut [u8], mac: &[u8]) -> Session {
     checked.session
 }
 
+// What an office does with its session at the end of a day, and at the start of the next.
+fn overnight(session: Session) -> Session {
+    let mut form = [0u8; 205];
+    saved::save(session, &mut form);
+    let morning = saved::load(&form);
+    morning.session
+}
+
 // A six-sided die, near enough for an example.
 fn die(session: Session) -> u8 {
     let mut bytes = [0u8; 1];
@@ -47,7 +56,7 @@ fn main() {
     let mut mac = [0u8; 16];
     let here = send(office(b"a shared secret"), &mut text, &mut mac);
     let there = receive(office(b"a shared secret"), &mut text, &mac);
-    if die(here) == die(there) {
+    if die(overnight(here)) == die(there) {
         write_text(b"the dice agree");
     } else {
         write_text(b"the dice differ");
