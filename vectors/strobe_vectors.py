@@ -14,10 +14,11 @@ from strobe import (
     AD, DONE, I, K, KEY, M, MAC_UNEQUAL, NO_LEVEL, PRF, RATCHET,
     RATES, RECV_CLR, RECV_ENC, RECV_MAC, SEND_CLR, SEND_ENC, SEND_MAC, T,
     Strobe, blank, fresh, merlin, test_strobe)
-from saved import SIZE, load, save
+from lines import NAME, Lines, counting
+from saved import save
+from saved_cases import forms
 
 CRATE = Path(__file__).resolve().parent.parent / "crates" / "strobe_vectors"
-NAME = b"Pekenutor vectors"
 
 # What the program does, call by call: the flags, `more`, how many bytes.
 
@@ -90,60 +91,6 @@ REFUSED = [
     (RECV_MAC, False, 65),
     (M | RECV_MAC, False, 65),
 ]
-
-
-def counting(first, n):
-    """n bytes that count up, so that a byte out of its place is seen."""
-    return bytes((first + j) % 256 for j in range(n))
-
-
-class Lines:
-    """The lines of the calls so far."""
-
-    def __init__(self):
-        self.lines = []
-
-    def outcome(self, answer, session, lent):
-        """The line of a creation or a call."""
-        end = {None: "0", 0: "1", I: "2"}[session.i0]
-        last = session.cur_flags
-        self.lines.append(
-            f"{answer:02} {session.pos:02x} {session.pos_begin:02x} {end} "
-            f"{'--' if last is None else f'{last:02x}'} "
-            f"{lent.hex()} {session.state.hex()}")
-
-    def call(self, session, flags, more, data):
-        """A call on these bytes; what they are after it."""
-        answer, data = session.call(flags, more, data)
-        self.outcome(answer, session, data)
-        return data
-
-    def numbered(self, session, flags, more, n):
-        """A call by number on n counting bytes."""
-        self.call(session, flags, more, counting(flags, n))
-
-    def named(self, session, flags, more, n):
-        """A call by name: there a ratchet has a count, and no bytes."""
-        if flags & ~M == RATCHET:
-            self.outcome(session.call(flags, more, bytes(n))[0], session, b"")
-        else:
-            self.numbered(session, flags, more, n)
-
-    def row(self, numbers):
-        """Numbers below 256."""
-        self.lines.append(bytes(numbers).hex())
-
-    def loads(self, forms):
-        """Two rows: the answers of loads, and the positions they give."""
-        loaded = [load(data) for data in forms]
-        self.row(answer for answer, _ in loaded)
-        self.row(session.pos for _, session in loaded)
-
-    def fresh(self, level):
-        """A creation."""
-        session = fresh(NAME, level)
-        self.outcome(DONE, session, NAME)
-        return session
 
 
 def sequence(lines, level):
@@ -232,59 +179,6 @@ def refusals(lines):
     lines.outcome(NO_LEVEL, blank(), NAME)
     lines.numbered(blank(), AD, False, 3)
     lines.named(blank(), RECV_MAC, False, 0)
-
-
-def there_and_back(lines, session):
-    """A save into a buffer of just the size, and a load of it."""
-    answer, data = save(session, bytes(SIZE))
-    lines.outcome(answer, session, data)
-    answer, loaded = load(data)
-    lines.outcome(answer, loaded, data)
-    return loaded
-
-
-def first_calls(lines, session):
-    """Before an operation is opened `more` has nothing to go on with."""
-    lines.numbered(session, AD, False, 3)
-    loaded = there_and_back(lines, session)
-    for flags, more in ((AD, True), (0x22, True), (0x05, True),
-                        (RECV_MAC, True), (RECV_MAC, False), (AD, False),
-                        (AD, True)):
-        lines.numbered(loaded, flags, more, 3)
-    return loaded
-
-
-def by_length(lines, session):
-    """Saves into, and loads of, the first n bytes of 256, for each n."""
-    buf = counting(0, 256)
-    saves = [save(session, buf[:n]) for n in range(256)]
-    after = [data + buf[n:] for n, (_, data) in enumerate(saves)]
-    lines.row(answer for answer, _ in saves)
-    lines.row(2 * (data == buf) + (data[SIZE:] == buf[SIZE:])
-              for data in after)
-    data = save(session, buf)[1]
-    lines.loads(data[:n] for n in range(256))
-
-
-def forms(lines):
-    """The saved form."""
-    example = fresh(b"seat 7", 128)
-    example.call(SEND_CLR, False, b"d6")
-    there_and_back(lines, example)
-    for level in RATES:
-        session = fresh(NAME, level)
-        there_and_back(lines, session)
-        lines.numbered(session, RECV_ENC, False, 100)
-        loaded = first_calls(lines, there_and_back(lines, session))
-        data = save(loaded, bytes(SIZE))[1]
-        for place in range(5):
-            lines.loads(data[:place] + bytes([value]) + data[place + 1:]
-                        for value in range(256))
-    by_length(lines, loaded)
-    # 8 comes before 11.
-    for n in (0, SIZE):
-        answer, data = save(blank(), bytes(n))
-        lines.outcome(answer, blank(), data)
 
 
 def turn(lines, session, flags, more, n, count=32, room=210):

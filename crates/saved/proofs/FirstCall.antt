@@ -4,7 +4,7 @@ use mathlib.Core.Path.{_≡_, refl, ap, _∙_}
 use mathlib.Core.List.{List, [], _∷_}
 use mathlib.Core.Bool.{Bool, true, false, not, cond}
 use lib.ListN.{length}
-use borrow.Author.Tests.{not-true, not-false}
+use borrow.Author.Tests.{not-true}
 use native.Mathlib.Omega.{arith}
 use Rattle.strobe.proofs.Accepted.{refusal-refuses}
 use Rattle.strobe.proofs.Calls.{well-ordered, ordered-well}
