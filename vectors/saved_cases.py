@@ -4,7 +4,8 @@ import sys
 sys.dont_write_bytecode = True  # a run leaves no file beside this one
 from lines import NAME, counting
 from saved import SIZE, load, save
-from strobe import AD, RATES, RECV_ENC, RECV_MAC, SEND_CLR, blank, fresh
+from strobe import (
+    AD, RATES, RECV_ENC, RECV_MAC, SEND_CLR, Strobe, blank, fresh)
 
 
 def there_and_back(lines, session):
@@ -27,16 +28,30 @@ def first_calls(lines, session):
     return loaded
 
 
-def by_length(lines, session):
-    """Saves into, and loads of, the first n bytes of 256, for each n."""
+def saves(lines, session):
+    """Saves into the first n bytes of 256, for each n; what is kept."""
     buf = counting(0, 256)
-    saves = [save(session, buf[:n]) for n in range(256)]
-    after = [data + buf[n:] for n, (_, data) in enumerate(saves)]
-    lines.row(answer for answer, _ in saves)
+    saved = [save(session, buf[:n]) for n in range(256)]
+    after = [data + buf[n:] for n, (_, data) in enumerate(saved)]
+    lines.row(answer for answer, _ in saved)
     lines.row(2 * (data == buf) + (data[SIZE:] == buf[SIZE:])
               for data in after)
-    data = save(session, buf)[1]
-    lines.loads(data[:n] for n in range(256))
+
+
+def not_saved(lines):
+    """Sessions that are not well formed."""
+    saves(lines, blank())
+    for pos, pos_begin, last in ((134, 0, None), (4, 5, None), (5, 5, 0x05)):
+        session = Strobe(bytes(200), RATES[256], pos, pos_begin)
+        session.cur_flags = last
+        saves(lines, session)
+
+
+def refused(lines):
+    """A refused load, and a call on what it gave."""
+    answer, session = load(b"\x01" * 461)
+    lines.outcome(answer, session, b"")
+    lines.numbered(session, AD, False, 3)
 
 
 def forms(lines):
@@ -53,8 +68,8 @@ def forms(lines):
         for place in range(5):
             lines.loads(data[:place] + bytes([value]) + data[place + 1:]
                         for value in range(256))
-    by_length(lines, loaded)
-    # 8 comes before 11.
-    for n in (0, SIZE):
-        answer, data = save(blank(), bytes(n))
-        lines.outcome(answer, blank(), data)
+    saves(lines, loaded)
+    data = save(loaded, counting(0, 256))[1]
+    lines.loads(data[:n] for n in range(256))
+    not_saved(lines)
+    refused(lines)

@@ -197,9 +197,10 @@ def turn(lines, session, flags, more, n, count=32, room=210):
 
 def turns(lines):
     """Turns on a lent session."""
-    session = fresh(NAME, 128)
-    for flags in range(K):
-        turn(lines, session, flags, False, 20)
+    for level in (256, 128):
+        session = fresh(NAME, level)
+        for flags in range(K):
+            turn(lines, session, flags, False, 20)
     turn(lines, session, AD, True, 70)
     turn(lines, copy.deepcopy(session), 0x22, False, 1)
     turn(lines, copy.deepcopy(session), SEND_ENC, True, 1)

@@ -1,11 +1,9 @@
--- A seat's turn is what its five calls say in turn, and the promise of `take_turn` fixes one answer: two results that meet it, and what they leave in the three lent buffers, are equal. Assumes nothing.
+-- A seat's turn is what its five calls say, one after another. Assumes nothing.
 use Prim.Native.Nat.{ℕ}
-use mathlib.Core.Path.{_≡_, subst}
+use mathlib.Core.Path.{subst}
 use mathlib.Core.List.{List}
 use mathlib.Core.Bool.{Bool, false}
 use lib.ListN.{replicate}
-use Rattle.laws.proofs.Promise.{one-answer}
-use Rattle.strobe.proofs.Promise.{number-one}
 use Rattle.strobe.specs.Flags.{AD, PRF, RATCHET}
 use Rattle.strobe.specs.Session.{Calls}
 use Rattle.strobe.specs.declared.answer.Answer.{Answer}
@@ -15,7 +13,6 @@ use Rattle.saved.specs.Saved.{Saves}
 use Rattle.lent.specs.Lent.{outcome}
 use Rattle.lent.specs.Turn.{noted, called, drawn, Turned}
 use Rattle.lent.specs.declared.Report.{Report}
-use Rattle.lent.specs.declared.turn.Turn.{Turn}
 
 module _ {s : Session} {event : List ℕ} {f : Flags} {more : Bool} {bs dice : List ℕ} {n : ℕ} {form : List ℕ} where
   -- each call begins at the session that the one before it left, and a promise says which one that is
@@ -37,15 +34,3 @@ module _ {s : Session} {event : List ℕ} {f : Flags} {more : Bool} {bs dice : L
         session = ratchet-says .outcome .session;
         saves = subst (λ (z : Session). Saves z form a form′) (ratchet-says .outcome .session) from-z₄;
       }
-
-  pub take-turn-one-answer : {r q : Turn} {x x′ y y′ z z′ : List ℕ} → Turned s event f more bs dice n form r x y z → Turned s event f more bs dice n form q x′ y′ z′ → (r ≡ q) × ((x ≡ x′) × ((y ≡ y′) × (z ≡ z′)))
-  take-turn-one-answer {r} {q} t u =
-      let session-one : r .session ≡ q .session = one-answer (t .session) (u .session) in
-      let noted-one : r .noted ≡ q .noted = number-one (r .noted) (q .noted) (one-answer (t .note-answer) (u .note-answer)) in
-      let called-one : r .called ≡ q .called = number-one (r .called) (q .called) (one-answer (t .call-answer) (u .call-answer)) in
-      let drawn-one : r .drawn ≡ q .drawn = number-one (r .drawn) (q .drawn) (one-answer (t .draw-answer) (u .draw-answer)) in
-      let ratcheted-one : r .ratcheted ≡ q .ratcheted = number-one (r .ratcheted) (q .ratcheted) (one-answer (t .ratchet-answer) (u .ratchet-answer)) in
-      let saved-one : r .saved ≡ q .saved = number-one (r .saved) (q .saved) (one-answer (t .saves .answer) (u .saves .answer)) in (
-        λ i. record { session = session-one i; noted = noted-one i; called = called-one i; drawn = drawn-one i; ratcheted = ratcheted-one i; saved = saved-one i },
-        (one-answer (t .lent) (u .lent), (one-answer (t .dice-lent) (u .dice-lent), one-answer (t .saves .lent) (u .saves .lent))),
-      )

@@ -19,7 +19,8 @@ pub struct Turn {
     pub saved: Answer,
 }
 
-// An event is taken in by ad, an operation is done by number on the buffer, dice are drawn by prf, the state is ratcheted, and the session is saved into the form.
+// An event is taken in by ad, an operation is done by number on the buffer, dice are drawn by prf, the state is ratcheted, and the session is saved into the form. Each
+// call is made whatever those before it answered.
 pub fn take_turn(
     session: Session,
     event: &[u8],

@@ -1,15 +1,11 @@
 -- The state's bytes are copied out of a saved form and into it. Assumes nothing.
 use Prim.Native.Nat.{ℕ, _≤_}
 use mathlib.Core.Path.{_≡_, refl, sym, ap, ap₂, _∙_}
-use mathlib.Core.List.{List, [], _∷_, _++_}
+use mathlib.Core.List.{List, [], _∷_, _++_, append-nil}
 use native.Mathlib.Omega.{arith}
 use lib.ListN.{length, set, take, drop, length-set, length-append, length-drop, drop-of-length-le}
 use lib.Seq.{length-take-le, take-all}
 use borrow.Rule.Slice.PartMut.{midOf, putMid, post-is}
-
-append-nil : (l : List ℕ) → l ++ [] ≡ l
-append-nil [] = refl
-append-nil (x ∷ l) = ap (λ (t : List ℕ). x ∷ t) (append-nil l)
 
 -- a copy that fills its place leaves nothing of what was there
 pub copy-fills : (src dst : List ℕ) → length src ≡ length dst → take (length src) src ++ drop (length src) dst ≡ src
@@ -23,11 +19,11 @@ state-length form h = length-take-le 200 (drop 5 form) (omega (arith, length-dro
 
 -- ---- in
 
--- the five bytes before the state
-abbrev pub head5 : List ℕ → ℕ → ℕ → ℕ → ℕ → ℕ → List ℕ
-head5 b x₀ x₁ x₂ x₃ x₄ = set (set (set (set (set b 0 x₀) 1 x₁) 2 x₂) 3 x₃) 4 x₄
+-- a buffer with the five bytes before the state set
+abbrev pub headed : List ℕ → ℕ → ℕ → ℕ → ℕ → ℕ → List ℕ
+headed b x₀ x₁ x₂ x₃ x₄ = set (set (set (set (set b 0 x₀) 1 x₁) 2 x₂) 3 x₃) 4 x₄
 
-take-head : (b : List ℕ) (x₀ x₁ x₂ x₃ x₄ : ℕ) → 5 ≤ length b → take 5 (head5 b x₀ x₁ x₂ x₃ x₄) ≡ x₀ ∷ x₁ ∷ x₂ ∷ x₃ ∷ x₄ ∷ []
+take-head : (b : List ℕ) (x₀ x₁ x₂ x₃ x₄ : ℕ) → 5 ≤ length b → take 5 (headed b x₀ x₁ x₂ x₃ x₄) ≡ x₀ ∷ x₁ ∷ x₂ ∷ x₃ ∷ x₄ ∷ []
 take-head [] x₀ x₁ x₂ x₃ x₄ h = absurd (omega arith)
 take-head (y₀ ∷ []) x₀ x₁ x₂ x₃ x₄ h = absurd (omega arith)
 take-head (y₀ ∷ y₁ ∷ []) x₀ x₁ x₂ x₃ x₄ h = absurd (omega arith)
@@ -35,7 +31,7 @@ take-head (y₀ ∷ y₁ ∷ y₂ ∷ []) x₀ x₁ x₂ x₃ x₄ h = absurd (o
 take-head (y₀ ∷ y₁ ∷ y₂ ∷ y₃ ∷ []) x₀ x₁ x₂ x₃ x₄ h = absurd (omega arith)
 take-head (y₀ ∷ y₁ ∷ y₂ ∷ y₃ ∷ y₄ ∷ b) x₀ x₁ x₂ x₃ x₄ h = refl
 
-drop-head : (b : List ℕ) (x₀ x₁ x₂ x₃ x₄ : ℕ) → 5 ≤ length b → drop 205 (head5 b x₀ x₁ x₂ x₃ x₄) ≡ drop 205 b
+drop-head : (b : List ℕ) (x₀ x₁ x₂ x₃ x₄ : ℕ) → 5 ≤ length b → drop 205 (headed b x₀ x₁ x₂ x₃ x₄) ≡ drop 205 b
 drop-head [] x₀ x₁ x₂ x₃ x₄ h = absurd (omega arith)
 drop-head (y₀ ∷ []) x₀ x₁ x₂ x₃ x₄ h = absurd (omega arith)
 drop-head (y₀ ∷ y₁ ∷ []) x₀ x₁ x₂ x₃ x₄ h = absurd (omega arith)
@@ -43,15 +39,15 @@ drop-head (y₀ ∷ y₁ ∷ y₂ ∷ []) x₀ x₁ x₂ x₃ x₄ h = absurd (o
 drop-head (y₀ ∷ y₁ ∷ y₂ ∷ y₃ ∷ []) x₀ x₁ x₂ x₃ x₄ h = absurd (omega arith)
 drop-head (y₀ ∷ y₁ ∷ y₂ ∷ y₃ ∷ y₄ ∷ b) x₀ x₁ x₂ x₃ x₄ h = refl
 
-length-head : (b : List ℕ) (x₀ x₁ x₂ x₃ x₄ : ℕ) → length (head5 b x₀ x₁ x₂ x₃ x₄) ≡ length b
+length-head : (b : List ℕ) (x₀ x₁ x₂ x₃ x₄ : ℕ) → length (headed b x₀ x₁ x₂ x₃ x₄) ≡ length b
 length-head b x₀ x₁ x₂ x₃ x₄ = simp length-set
 
 -- five bytes are set, and a copy of the state fills the part behind them
 pub form-written : (buf state : List ℕ) (x₀ x₁ x₂ x₃ x₄ : ℕ) → length state ≡ 200 → 205 ≤ length buf
-    → let l = head5 buf x₀ x₁ x₂ x₃ x₄ in
+    → let l = headed buf x₀ x₁ x₂ x₃ x₄ in
     putMid 5 200 l (take (length state) state ++ drop (length state) (midOf 5 200 l)) ≡ (x₀ ∷ x₁ ∷ x₂ ∷ x₃ ∷ x₄ ∷ state) ++ drop 205 buf
 form-written buf state x₀ x₁ x₂ x₃ x₄ n h =
-    let l = head5 buf x₀ x₁ x₂ x₃ x₄ in
+    let l = headed buf x₀ x₁ x₂ x₃ x₄ in
     ap (putMid 5 200 l) (copy-fills state (midOf 5 200 l) (n ∙ sym (state-length l (omega (arith, length-head buf x₀ x₁ x₂ x₃ x₄)))))
     ∙ ap₂ (λ (x y : List ℕ). x ++ (state ++ y)) (take-head buf x₀ x₁ x₂ x₃ x₄ (omega arith)) (post-is 5 205 l (omega arith) ∙ drop-head buf x₀ x₁ x₂ x₃ x₄ (omega arith))
 

@@ -5,7 +5,7 @@ use mathlib.Core.List.{List, [], _∷_}
 use mathlib.Core.Bool.{Bool, true, false, not, cond}
 use lib.ListN.{length}
 use borrow.Author.Tests.{not-true}
-use native.Mathlib.Omega.{arith}
+use Rattle.laws.proofs.Bools.{true-not-false}
 use Rattle.strobe.proofs.Accepted.{refusal-refuses}
 use Rattle.strobe.proofs.Calls.{well-ordered, ordered-well}
 use Rattle.strobe.proofs.Runs.{refused-ran, refused-struck, struck-ran}
@@ -13,19 +13,20 @@ use Rattle.strobe.specs.Answer.{refuses}
 use Rattle.strobe.specs.Duplex.{Sponge}
 use Rattle.strobe.specs.Flags.{K, has, operation, known, isRecvMac}
 use Rattle.strobe.specs.Runs.{Call, effect, accepts, ran, struck, opens}
+use Rattle.strobe.specs.Session.{rateOf, spongeOf, seen}
 use Rattle.strobe.specs.Strobe.{Strobe, opened, wellFormed, refusal, settled, call}
 use Rattle.strobe.specs.declared.flags.Flags.{Flags}
+use Rattle.strobe.specs.declared.session.Session.{Session}
+use Rattle.saved.specs.Saved.{form, loaded}
+use Rattle.saved.proofs.RoundTrip.{load-of-save}
 use Rattle.saved.specs.AfterLoad.{withoutLast, waiting, kept, loadedAfter, savedAfter, AfterLoad}
-
-true-not-false : {b : Bool} → b ≡ true → b ≡ false → ⊥
-true-not-false e d = let z : _≡_ {A = ℕ} 0 1 = cc in omega arith
 
 opening-opens : (c : Call) (cs : List Call) → c .more ≡ false → opens (c ∷ cs) ≡ true
 unfolding opens
 opening-opens c cs e = rw e
 
 module _ (sp : Sponge) where
-  nothing-kept : (s : Strobe) (cs : List Call) → kept sp s cs ≡ [] → savedAfter sp s cs ≡ s
+  nothing-kept : (s : Strobe) (cs : List Call) → kept sp s (withoutLast s) cs ≡ [] → savedAfter sp s (withoutLast s) cs ≡ s
   unfolding ran
   nothing-kept s cs e = ap (ran sp s) e
 
@@ -85,9 +86,9 @@ module _ (sp : Sponge) (s : Strobe) (w : wellFormed (sp .rate) s ≡ true) where
 
   -- ---- any calls
 
-  -- of the accepted calls and the session behind them: before an opening nothing is accepted, behind one the two sessions are one
-  abbrev Behind : List Call → Strobe → Type 0
-  Behind ks t = (opens ks ≡ false → (ks ≡ []) × (t ≡ withoutLast s)) × (opens ks ≡ true → t ≡ ran sp s ks)
+  -- of the accepted calls and the session after them: before an opening nothing is accepted, after one the two sessions are one
+  abbrev Afterwards : List Call → Strobe → Type 0
+  Afterwards ks t = (opens ks ≡ false → (ks ≡ []) × (t ≡ withoutLast s)) × (opens ks ≡ true → t ≡ ran sp s ks)
 
   accepted-opens : (c : Call) → accepts sp (withoutLast s) c ≡ true → c .more ≡ false
   accepted-opens c a = go (c .more) refl
@@ -96,13 +97,13 @@ module _ (sp : Sponge) (s : Strobe) (w : wellFormed (sp .rate) s ≡ true) where
       go true e = absurd (true-not-false a (more-refused c e))
       go false e = refl
 
-  behind : (cs : List Call) → Behind (kept sp s cs) (loadedAfter sp s cs)
+  afterwards : (cs : List Call) → Afterwards (kept sp s (withoutLast s) cs) (loadedAfter sp s (withoutLast s) cs)
   unfolding ran struck opens
-  behind [] = (λ e. (refl, refl), λ e. absurd (true-not-false e refl))
-  behind (c ∷ cs) = go (accepts sp (withoutLast s) c) refl (behind cs)
+  afterwards [] = (λ e. (refl, refl), λ e. absurd (true-not-false e refl))
+  afterwards (c ∷ cs) = go (accepts sp (withoutLast s) c) refl (afterwards cs)
     where
-      go : (t : Bool) → accepts sp (withoutLast s) c ≡ t → Behind (kept sp s cs) (loadedAfter sp s cs)
-          → Behind (kept sp s (c ∷ cs)) (loadedAfter sp s (c ∷ cs))
+      go : (t : Bool) → accepts sp (withoutLast s) c ≡ t → Afterwards (kept sp s (withoutLast s) cs) (loadedAfter sp s (withoutLast s) cs)
+          → Afterwards (kept sp s (withoutLast s) (c ∷ cs)) (loadedAfter sp s (withoutLast s) (c ∷ cs))
       go false a ih = rw (refused-struck sp (withoutLast s) c cs a, refused-ran sp (withoutLast s) c cs a) ih
       go true a ih =
           let m = accepted-opens c a in
@@ -112,9 +113,9 @@ module _ (sp : Sponge) (s : Strobe) (w : wellFormed (sp .rate) s ≡ true) where
             λ e. struck-ran sp (effect sp (withoutLast s) c .strobe) cs ∙ ap (λ (x : Strobe). ran sp x rest) (opening-same-session c m a),
           )
 
-pub first-call-after-load : (sp : Sponge) (s : Strobe) → wellFormed (sp .rate) s ≡ true → (cs : List Call) (c : Call) → AfterLoad sp s cs c
-first-call-after-load sp s w cs c =
-    let b = behind sp s w cs in
+pub calls-without-last : (sp : Sponge) (s : Strobe) → wellFormed (sp .rate) s ≡ true → (cs : List Call) (c : Call) → AfterLoad sp s (withoutLast s) cs c
+calls-without-last sp s w cs c =
+    let b = afterwards sp s w cs in
     let same = opening-same sp s w (c .flags) (c .bytes) in
     record {
       waits = λ o e. rw (b .0 o .1, e, more-waits sp s w (c .flags) (c .bytes));
@@ -124,3 +125,9 @@ first-call-after-load sp s w cs c =
       same-session = b .1;
       same-effect = λ o. ap (λ (x : Strobe). effect sp x c) (b .1 o);
     }
+
+-- ---- a session that was saved and loaded
+
+pub first-call-after-load : (s : Session) → length (s .state) ≡ 200 → wellFormed (rateOf (s .level)) (seen s) ≡ true → (cs : List Call) (c : Call)
+    → let l = loaded (form s) .session in AfterLoad (spongeOf (l .level)) (seen s) (seen l) cs c
+first-call-after-load s e w cs c = rw (load-of-save s e w) (calls-without-last (spongeOf (s .level)) (seen s) w cs c)

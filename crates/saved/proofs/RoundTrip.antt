@@ -1,30 +1,27 @@
--- A load undoes a save but for the last operation, a save undoes a load, a loaded session never gets 8, and refused bytes give a blank. Assumes nothing.
+-- A load undoes a save but for the last operation, and a save undoes a load. Assumes nothing.
+-- The code's type `[u8; 200]` gives the length of a state; in the definitions a state is any list, so the theorems ask for it.
 use Prim.Native.Nat.{ℕ, _≤_, _<_}
 use mathlib.Core.Path.{_≡_, refl, sym, ap, _∙_}
-use mathlib.Core.List.{List, [], _∷_, append-nil}
+use mathlib.Core.List.{List, _∷_, _++_}
 use mathlib.Core.Bool.{Bool, true, false, cond, _||_}
 use mathlib.Core.Logic.{_↔_}
 use lib.Dec.{eqb, leb, ltb}
-use lib.ListN.{length, take, drop, length-drop, drop-of-length-le}
+use lib.ListN.{length, take, drop, length-drop}
 use lib.Seq.{take-all, drop-cons, take-at, drop-at, length-take-le}
 use borrow.Author.Tests.{eqb-true, eqb-false, ltb-true, leb-true, lt-ltb, le-ltb, le-leb}
 use native.Mathlib.Omega.{arith}
 use Rattle.laws.proofs.Bools.{and-left, and-right}
 use Rattle.strobe.proofs.Calls.{well-ordered, ordered-well}
-use Rattle.strobe.proofs.Refused.{blank-refused}
-use Rattle.strobe.proofs.Runs.{well-never-8, ran-never-8}
-use Rattle.strobe.specs.Answer.{done, notASession, badSaved, refuses}
-use Rattle.strobe.specs.Runs.{Call, effect, ran}
-use Rattle.strobe.specs.Session.{rateOf, spongeOf, seen, held, Given, given, blank}
-use Rattle.strobe.specs.Strobe.{wellFormed, call}
+use Rattle.strobe.specs.Answer.{done, badSaved}
+use Rattle.strobe.specs.Session.{rateOf, seen, held, Given, given, blank}
+use Rattle.strobe.specs.Strobe.{wellFormed}
 use Rattle.strobe.specs.declared.direction.Direction.{Direction}
 use Rattle.strobe.specs.declared.direction.Direction.the-variants.{Neither, Sender, Receiver}
-use Rattle.strobe.specs.declared.flags.Flags.{Flags}
 use Rattle.strobe.specs.declared.level.Level.{Level}
 use Rattle.strobe.specs.declared.level.Level.the-variants.{B128, B256}
 use Rattle.strobe.specs.declared.session.Session.{Session}
 use Rattle.saved.specs.AfterLoad.{withoutLast}
-use Rattle.saved.specs.Saved.{edition, size, levelByte, directionByte, form, at, levelOf, directionOf, isEdition, fits, isForm, sessionIn, loaded, saving}
+use Rattle.saved.specs.Saved.{edition, size, levelByte, directionByte, form, byteAt, levelOf, directionOf, isEdition, fits, isForm, sessionIn, loaded, saving}
 use Rattle.saved.proofs.Forms.{a-form}
 
 -- ---- the two bytes that are no numbers, there and back
@@ -110,11 +107,11 @@ saved-front-loads s bs w h e = ap loaded (saved-front s bs w h e .1) ∙ load-of
 
 record Fitting (bs : List ℕ) : Type 0 where
   long : length bs ≡ size
-  first : at bs 0 ≡ edition
-  level : eqb (at bs 1) 1 || eqb (at bs 1) 2 ≡ true
-  below : at bs 2 < rateOf (levelOf (at bs 1))
-  begun : at bs 3 ≤ at bs 2
-  direction : leb (at bs 4) 2 ≡ true
+  first : byteAt bs 0 ≡ edition
+  level : eqb (byteAt bs 1) 1 || eqb (byteAt bs 1) 2 ≡ true
+  below : byteAt bs 2 < rateOf (levelOf (byteAt bs 1))
+  begun : byteAt bs 3 ≤ byteAt bs 2
+  direction : leb (byteAt bs 4) 2 ≡ true
   session : loaded bs ≡ given done (sessionIn bs)
 
 done-form : (bs : List ℕ) → loaded bs .answer ≡ done → isForm bs ≡ true
@@ -130,29 +127,29 @@ unfolding isEdition fits
 fitting bs e =
     let both = done-form bs e in
     let here = and-left (isEdition bs) _ both in
-    let there = and-right (isEdition bs) (fits (at bs 1) (at bs 2) (at bs 3) (at bs 4)) both in
-    let behind-level = and-right (eqb (at bs 1) 1 || eqb (at bs 1) 2) _ there in
-    let behind-pos = and-right (ltb (at bs 2) (rateOf (levelOf (at bs 1)))) _ behind-level in
+    let there = and-right (isEdition bs) (fits (byteAt bs 1) (byteAt bs 2) (byteAt bs 3) (byteAt bs 4)) both in
+    let after-level = and-right (eqb (byteAt bs 1) 1 || eqb (byteAt bs 1) 2) _ there in
+    let after-pos = and-right (ltb (byteAt bs 2) (rateOf (levelOf (byteAt bs 1)))) _ after-level in
     record {
       long = eqb-true (length bs) size (and-left (eqb (length bs) size) _ here);
-      first = eqb-true (at bs 0) edition (and-right (eqb (length bs) size) _ here);
-      level = and-left (eqb (at bs 1) 1 || eqb (at bs 1) 2) _ there;
-      below = ltb-true _ _ (and-left (ltb (at bs 2) (rateOf (levelOf (at bs 1)))) _ behind-level);
-      begun = leb-true _ _ (and-left (leb (at bs 3) (at bs 2)) (leb (at bs 4) 2) behind-pos);
-      direction = and-right (leb (at bs 3) (at bs 2)) (leb (at bs 4) 2) behind-pos;
+      first = eqb-true (byteAt bs 0) edition (and-right (eqb (length bs) size) _ here);
+      level = and-left (eqb (byteAt bs 1) 1 || eqb (byteAt bs 1) 2) _ there;
+      below = ltb-true _ _ (and-left (ltb (byteAt bs 2) (rateOf (levelOf (byteAt bs 1)))) _ after-level);
+      begun = leb-true _ _ (and-left (leb (byteAt bs 3) (byteAt bs 2)) (leb (byteAt bs 4) 2) after-pos);
+      direction = and-right (leb (byteAt bs 3) (byteAt bs 2)) (leb (byteAt bs 4) 2) after-pos;
       session = a-form bs both;
     }
 
 -- ---- what was loaded saves as the same bytes
 
-five-and-rest : (bs : List ℕ) → 5 ≤ length bs → at bs 0 ∷ at bs 1 ∷ at bs 2 ∷ at bs 3 ∷ at bs 4 ∷ drop 5 bs ≡ bs
+five-and-rest : (bs : List ℕ) → 5 ≤ length bs → byteAt bs 0 ∷ byteAt bs 1 ∷ byteAt bs 2 ∷ byteAt bs 3 ∷ byteAt bs 4 ∷ drop 5 bs ≡ bs
 five-and-rest bs h =
     sym
     (drop-cons bs 0 0 (omega arith)
-    ∙ ap (λ (l : List ℕ). at bs 0 ∷ l) (drop-cons bs 1 0 (omega arith))
-    ∙ ap (λ (l : List ℕ). at bs 0 ∷ at bs 1 ∷ l) (drop-cons bs 2 0 (omega arith))
-    ∙ ap (λ (l : List ℕ). at bs 0 ∷ at bs 1 ∷ at bs 2 ∷ l) (drop-cons bs 3 0 (omega arith))
-    ∙ ap (λ (l : List ℕ). at bs 0 ∷ at bs 1 ∷ at bs 2 ∷ at bs 3 ∷ l) (drop-cons bs 4 0 h))
+    ∙ ap (λ (l : List ℕ). byteAt bs 0 ∷ l) (drop-cons bs 1 0 (omega arith))
+    ∙ ap (λ (l : List ℕ). byteAt bs 0 ∷ byteAt bs 1 ∷ l) (drop-cons bs 2 0 (omega arith))
+    ∙ ap (λ (l : List ℕ). byteAt bs 0 ∷ byteAt bs 1 ∷ byteAt bs 2 ∷ l) (drop-cons bs 3 0 (omega arith))
+    ∙ ap (λ (l : List ℕ). byteAt bs 0 ∷ byteAt bs 1 ∷ byteAt bs 2 ∷ byteAt bs 3 ∷ l) (drop-cons bs 4 0 h))
 
 state-size : (bs : List ℕ) → length bs ≡ size → length (drop 5 bs) ≡ 200
 state-size bs e = length-drop 5 bs ∙ omega arith
@@ -162,8 +159,8 @@ unfolding form sessionIn
 save-of-load bs e =
     let f = fitting bs e in
     let n = state-size bs (f .long) in
-    rw (f .session, level-byte-of (at bs 1) (f .level), direction-byte-of (at bs 4) (f .direction), take-all 200 (drop 5 bs) (omega arith))
-    (ap (λ (n : ℕ). n ∷ at bs 1 ∷ at bs 2 ∷ at bs 3 ∷ at bs 4 ∷ drop 5 bs) (sym (f .first)) ∙ five-and-rest bs (omega (arith, f .long)))
+    rw (f .session, level-byte-of (byteAt bs 1) (f .level), direction-byte-of (byteAt bs 4) (f .direction), take-all 200 (drop 5 bs) (omega arith))
+    (ap (λ (n : ℕ). n ∷ byteAt bs 1 ∷ byteAt bs 2 ∷ byteAt bs 3 ∷ byteAt bs 4 ∷ drop 5 bs) (sym (f .first)) ∙ five-and-rest bs (omega (arith, f .long)))
 
 -- ---- a session that was loaded
 
@@ -171,7 +168,7 @@ pub loaded-well : (bs : List ℕ) → loaded bs .answer ≡ done → wellFormed 
 unfolding sessionIn
 loaded-well bs e =
     let f = fitting bs e in
-    rw (f .session) (ordered-well (rateOf (levelOf (at bs 1))) (seen (sessionIn bs)) (record { below = f .below; begun = f .begun }) refl)
+    rw (f .session) (ordered-well (rateOf (levelOf (byteAt bs 1))) (seen (sessionIn bs)) (record { below = f .below; begun = f .begun }) refl)
 
 loaded-size : (bs : List ℕ) → loaded bs .answer ≡ done → length (loaded bs .session .state) ≡ 200
 unfolding sessionIn
@@ -180,13 +177,12 @@ loaded-size bs e =
     let n = state-size bs (f .long) in
     rw (f .session) (length-take-le 200 (drop 5 bs) (omega arith))
 
--- into a buffer of the form's size
-pub save-of-load-fills : (bs buf : List ℕ) → loaded bs .answer ≡ done → length buf ≡ size
-    → (saving (loaded bs .session) buf .answer ≡ done) × (saving (loaded bs .session) buf .lent ≡ bs)
+-- into a buffer with room, whose rest stays
+pub save-of-load-fills : (bs buf : List ℕ) → loaded bs .answer ≡ done → size ≤ length buf
+    → (saving (loaded bs .session) buf .answer ≡ done) × (saving (loaded bs .session) buf .lent ≡ bs ++ drop size buf)
 unfolding saving
-save-of-load-fills bs buf e n =
-    let none : drop size buf ≡ [] = drop-of-length-le buf {i = size} (omega arith) in
-    rw (loaded-well bs e, le-ltb (length buf) size (omega arith)) (refl, rw (none, append-nil) (save-of-load bs e))
+save-of-load-fills bs buf e h =
+    rw (loaded-well bs e, le-ltb (length buf) size h) (refl, ap (λ (l : List ℕ). l ++ drop size buf) (save-of-load bs e))
 
 -- the loads that are done are those of the forms of well-formed sessions
 pub loads-exactly-the-forms : (bs : List ℕ)
@@ -195,27 +191,3 @@ loads-exactly-the-forms bs = (
   λ e. (loaded bs .session, loaded-size bs e, loaded-well bs e, save-of-load bs e),
   λ h. ap (λ (b : List ℕ). loaded b .answer) (sym (h .3)) ∙ ap (λ (g : Given). g .answer) (load-of-save (h .0) (h .1) (h .2)),
 )
-
-pub loaded-never-8 : (bs : List ℕ) → loaded bs .answer ≡ done → (f : Flags) (more : Bool) (xs : List ℕ)
-    → call (spongeOf (loaded bs .session .level)) (seen (loaded bs .session)) f more xs .answer ≡ notASession → ⊥
-loaded-never-8 bs e f more xs = well-never-8 (spongeOf (loaded bs .session .level)) (seen (loaded bs .session)) f more xs (loaded-well bs e)
-
--- nor any call behind others
-pub loaded-ran-never-8 : (bs : List ℕ) → loaded bs .answer ≡ done → (cs : List Call) (c : Call)
-    → let sp = spongeOf (loaded bs .session .level) in
-    effect sp (ran sp (seen (loaded bs .session)) cs) c .answer ≡ notASession → ⊥
-loaded-ran-never-8 bs e cs c = ran-never-8 (spongeOf (loaded bs .session .level)) (seen (loaded bs .session)) cs c (loaded-well bs e)
-
--- ---- bytes that are refused
-
-pub refused-load-blank : (bs : List ℕ) → refuses (loaded bs .answer) ≡ true → loaded bs .session ≡ blank
-unfolding loaded
-refused-load-blank bs e = go (isForm bs) e
-  where
-    go : (t : Bool) → let g = cond t (given done (sessionIn bs)) (given badSaved blank) in refuses (g .answer) ≡ true → g .session ≡ blank
-    go true e = let z : _≡_ {A = ℕ} 0 1 = cc in absurd (omega arith)
-    go false e = refl
-
-pub refused-load-refuses : (bs : List ℕ) → refuses (loaded bs .answer) ≡ true → (f : Flags) (more : Bool) (xs : List ℕ)
-    → let s = loaded bs .session in call (spongeOf (s .level)) (seen s) f more xs ≡ record { answer = notASession; strobe = seen s; lent = xs }
-refused-load-refuses bs e f more xs = rw (refused-load-blank bs e) (blank-refused f more xs)

@@ -24,18 +24,18 @@ waiting f =
     (cond (isRecvMac (operation f)) cutMac
     notTheLast))
 
--- ---- s was saved and loaded again, then the calls cs were made
+-- ---- s was saved, a load gave l, and on l the calls cs were made
 
-module _ (sp : Sponge) (s : Strobe) (cs : List Call) where
+module _ (sp : Sponge) (s l : Strobe) (cs : List Call) where
   -- the calls without those that were refused
   abbrev pub kept : List Call
-  kept = struck sp (withoutLast s) cs
+  kept = struck sp l cs
 
-  -- the loaded session behind the calls
+  -- the loaded session after the calls
   abbrev pub loadedAfter : Strobe
-  loadedAfter = ran sp (withoutLast s) cs
+  loadedAfter = ran sp l cs
 
-  -- the session that was saved, had it met the same calls without those that were refused
+  -- the session that was saved, had it made only the accepted calls
   abbrev pub savedAfter : Strobe
   savedAfter = ran sp s kept
 

@@ -38,37 +38,37 @@ form s = edition ∷ levelByte (s .level) ∷ s .pos ∷ s .begin ∷ directionB
 
 -- ---- a load
 
-abbrev pub at : List ℕ → ℕ → ℕ
-at bs i = getD bs i 0
+abbrev pub byteAt : List ℕ → ℕ → ℕ
+byteAt bs i = getD bs i 0
 
 -- asked only of a level's byte and of a direction's byte
 abbrev pub levelOf : ℕ → Level
-levelOf b = cond (eqb b 1) B128 B256
+levelOf b = cond (eqb b (levelByte B128)) B128 B256
 
 abbrev pub directionOf : ℕ → Direction
-directionOf b = cond (eqb b 0) Neither (cond (eqb b 1) Sender Receiver)
+directionOf b = cond (eqb b (directionByte Neither)) Neither (cond (eqb b (directionByte Sender)) Sender Receiver)
 
 unfoldable pub isEdition : List ℕ → Bool
-isEdition bs = eqb (length bs) size && eqb (at bs 0) edition
+isEdition bs = eqb (length bs) size && eqb (byteAt bs 0) edition
 
--- the four bytes behind the edition: the level is one, the position is below its rate, the begin position is at most the position, the direction is one
+-- the four bytes after the edition: a level's byte, a position below that level's rate, a begin position at most the position, a direction's byte
 unfoldable pub fits : ℕ → ℕ → ℕ → ℕ → Bool
 fits level pos begin direction =
-    (eqb level 1 || eqb level 2)
-    && (ltb pos (rateOf (levelOf level)) && (leb begin pos && leb direction 2))
+    (eqb level (levelByte B128) || eqb level (levelByte B256))
+    && (ltb pos (rateOf (levelOf level)) && (leb begin pos && leb direction (directionByte Receiver)))
 
 abbrev pub isForm : List ℕ → Bool
-isForm bs = isEdition bs && fits (at bs 1) (at bs 2) (at bs 3) (at bs 4)
+isForm bs = isEdition bs && fits (byteAt bs 1) (byteAt bs 2) (byteAt bs 3) (byteAt bs 4)
 
 -- a load sets no last operation
 unfoldable pub sessionIn : List ℕ → Session
 sessionIn bs =
     record {
       state = take 200 (drop 5 bs);
-      level = levelOf (at bs 1);
-      pos = at bs 2;
-      begin = at bs 3;
-      direction = directionOf (at bs 4);
+      level = levelOf (byteAt bs 1);
+      pos = byteAt bs 2;
+      begin = byteAt bs 3;
+      direction = directionOf (byteAt bs 4);
       last = Nothing;
     }
 

@@ -17,6 +17,11 @@ const EDITION: u8 = 1;
 
 const SIZE: usize = 205;
 
+// Where the state stands.
+const STATE: usize = 5;
+
+const STATE_END: usize = 205;
+
 fn level_byte(level: Level) -> u8
     ensures { λ r. ⌜ r ≡ levelByte level ⌝ }
 {
@@ -63,7 +68,7 @@ fn is_edition(bytes: &[u8]) -> bool
     bytes[0] == EDITION
 }
 
-// Whether the four bytes behind the edition belong to a session.
+// Whether the four bytes after the edition belong to a session.
 fn fits(level: u8, pos: u8, begin: u8, direction: u8) -> bool
     ensures { λ r. ⌜ r ≡ fits level pos begin direction ⌝ }
 {
@@ -97,7 +102,7 @@ fn state_in(form: &[u8]) -> [u8; 200]
     ensures { λ r. ⌜ r ≡ take 200 (drop 5 (now (form .entry))) ⌝ }
 {
     let mut state = [0u8; 200];
-    bytes::copy(&form[5..SIZE], &mut state);
+    bytes::copy(&form[STATE..STATE_END], &mut state);
     state
 }
 
@@ -135,7 +140,7 @@ fn write_form(level: u8, pos: u8, begin: u8, direction: u8, state: [u8; 200], bu
     buf[2] = pos;
     buf[3] = begin;
     buf[4] = direction;
-    bytes::copy(&state, &mut buf[5..SIZE]);
+    bytes::copy(&state, &mut buf[STATE..STATE_END]);
 }
 
 // Writes the saved form to the front of a buffer and leaves the rest of a longer one alone. A session that is not well formed gets NotASession, fewer

@@ -3,9 +3,9 @@ use Prim.Native.Nat.{ℕ, zero, suc}
 use mathlib.Core.Path.{_≡_, refl}
 use mathlib.Core.List.{List}
 use mathlib.Core.Bool.{Bool, true, false, not, cond, _&&_}
-use native.Mathlib.Omega.{arith}
 use lib.Dec.{eqb}
 use lib.ListN.{length}
+use Rattle.laws.proofs.Bools.{true-not-false}
 use Rattle.strobe.specs.Answer.{noLevel, notASession, refuses}
 use Rattle.strobe.specs.Duplex.{Sponge, met, same}
 use Rattle.strobe.specs.Flags.{operation, isRecvMac, ruleOf}
@@ -16,8 +16,8 @@ use Rattle.strobe.specs.declared.level.Level.the-variants.{B128, B256}
 
 -- work that is done ends in 0 or 9
 work-no-refusal : (t : Bool) → refuses (cond t 9 0) ≡ true → ⊥
-work-no-refusal true e = let z : _≡_ {A = ℕ} 0 1 = cc in omega arith
-work-no-refusal false e = let z : _≡_ {A = ℕ} 0 1 = cc in omega arith
+work-no-refusal true e = true-not-false e refl
+work-no-refusal false e = true-not-false e refl
 
 pub refused-unchanged : (sp : Sponge) (s : Strobe) (f : Flags) (more : Bool) (bs : List ℕ) → refuses (call sp s f more bs .answer) ≡ true
     → (call sp s f more bs .strobe ≡ s) × (call sp s f more bs .lent ≡ bs)

@@ -1,4 +1,5 @@
--- Calls one after another: a well-formed session stays so, and no call on it gets 8; the refused calls might as well not have been made. Assumes nothing.
+-- Calls one after another: a well-formed session stays so and no call on it gets 8, a blank stays a blank, and the refused calls might as well not have been
+-- made. Assumes nothing.
 use Prim.Native.Nat.{ℕ, zero, suc}
 use mathlib.Core.Path.{_≡_, refl, ap, _∙_}
 use mathlib.Core.List.{List, [], _∷_}
@@ -10,11 +11,13 @@ use Rattle.strobe.specs.Answer.{notASession}
 use Rattle.strobe.specs.Duplex.{Sponge, met, same}
 use Rattle.strobe.specs.Flags.{K, has, operation, known, isRecvMac, overLimit, ruleOf}
 use Rattle.strobe.specs.Runs.{Call, effect, accepts, ran, struck}
+use Rattle.strobe.specs.Session.{spongeOf, seen, blank}
 use Rattle.strobe.specs.Strobe.{Strobe, opened, isLast, wellFormed, refusal, verdict, worked, settled, call}
 use Rattle.strobe.specs.declared.flags.Flags.{Flags}
+use Rattle.strobe.specs.declared.level.Level.the-variants.{B128}
 use Rattle.strobe.proofs.Accepted.{passed-of, after-ordered, opened-ordered, opened-known}
 use Rattle.strobe.proofs.Calls.{well-ordered, well-known, ordered-well}
-use Rattle.strobe.proofs.Refused.{refused-unchanged}
+use Rattle.strobe.proofs.Refused.{refused-unchanged, blank-refused}
 
 module _ (sp : Sponge) where
   pub call-well : (s : Strobe) (f : Flags) (more : Bool) (bs : List ℕ) → wellFormed (sp .rate) s ≡ true
@@ -35,10 +38,10 @@ module _ (sp : Sponge) where
   ran-well s (c ∷ cs) w = ran-well (effect sp s c .strobe) cs (call-well s (c .flags) (c .more) (c .bytes) w)
 
   -- 8 is what a session gets that is not well formed, and no other
-  pub well-never-8 : (s : Strobe) (f : Flags) (more : Bool) (bs : List ℕ) → wellFormed (sp .rate) s ≡ true
+  pub well-is-a-session : (s : Strobe) (f : Flags) (more : Bool) (bs : List ℕ) → wellFormed (sp .rate) s ≡ true
       → call sp s f more bs .answer ≡ notASession → ⊥
   unfolding call refusal settled worked verdict
-  well-never-8 s f more bs w =
+  well-is-a-session s f more bs w =
       rw w
       (go (has f K) (known (operation f)) (more && isRecvMac (operation f)) (more && not (isLast (s .last) f)) (overLimit (operation f) (length bs)))
     where
@@ -55,8 +58,13 @@ module _ (sp : Sponge) where
       go false true false false false e =
           judged (isRecvMac (operation f) && not (same (met sp (ruleOf (operation f)) (opened sp s f more .duplex) bs) bs)) e
 
-  pub ran-never-8 : (s : Strobe) (cs : List Call) (c : Call) → wellFormed (sp .rate) s ≡ true → effect sp (ran sp s cs) c .answer ≡ notASession → ⊥
-  ran-never-8 s cs c w = well-never-8 (ran sp s cs) (c .flags) (c .more) (c .bytes) (ran-well s cs w)
+  pub ran-is-a-session : (s : Strobe) (cs : List Call) (c : Call) → wellFormed (sp .rate) s ≡ true → effect sp (ran sp s cs) c .answer ≡ notASession → ⊥
+  ran-is-a-session s cs c w = well-is-a-session (ran sp s cs) (c .flags) (c .more) (c .bytes) (ran-well s cs w)
+
+pub blank-stays : (cs : List Call) → ran (spongeOf B128) (seen blank) cs ≡ seen blank
+unfolding ran
+blank-stays [] = refl
+blank-stays (c ∷ cs) = rw (blank-refused (c .flags) (c .more) (c .bytes)) (blank-stays cs)
 
 -- ---- a refused call might as well not have been made
 

@@ -21,7 +21,7 @@ module _ (sp : Sponge) where
   abbrev pub accepts : Strobe → Call → Bool
   accepts s c = not (refuses (effect s c .answer))
 
-  -- the session behind the calls
+  -- the session after the calls
   unfoldable pub ran : Strobe → List Call → Strobe
   ran s [] = s
   ran s (c ∷ cs) = ran (effect s c .strobe) cs
@@ -33,7 +33,7 @@ module _ (sp : Sponge) where
       let rest = struck (effect s c .strobe) cs in
       cond (accepts s c) (c ∷ rest) rest
 
--- one of the calls opened its operation
+-- one of the calls has `more` off: if it was accepted, it opened its operation
 unfoldable pub opens : List Call → Bool
 opens [] = false
 opens (c ∷ cs) = not (c .more) || opens cs

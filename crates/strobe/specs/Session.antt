@@ -52,7 +52,7 @@ held l s =
 
 -- ---- creation
 
--- what a creation or a call hands back
+-- what a creation, a load or a call hands back
 pub record Given : Type 0 where
   pub answer : ℕ
   pub session : Session
@@ -99,6 +99,10 @@ pub record Comes (l : Level) (e : Effect) (r : Outcome) (bs′ : List ℕ) : Typ
   pub outcome : Is (given (e .answer) (held l (e .strobe))) r
   pub lent : bs′ ≡ e .lent
 
+-- what comes of a call on a session
+abbrev pub effectOn : Session → Flags → Bool → List ℕ → Effect
+effectOn s f more bs = call (spongeOf (s .level)) (seen s) f more bs
+
 -- the call by number, and each operation by name
 abbrev pub Calls : Session → Flags → Bool → List ℕ → Outcome → List ℕ → Type 0
-Calls s f more bs r bs′ = Comes (s .level) (call (spongeOf (s .level)) (seen s) f more bs) r bs′
+Calls s f more bs r bs′ = Comes (s .level) (effectOn s f more bs) r bs′

@@ -18,7 +18,7 @@ pub struct Session {
     pub last: Last,
 }
 
-// What a creation and every call give back.
+// What a creation, a load and every call give back.
 pub struct Outcome {
     pub session: Session,
     pub answer: Answer,

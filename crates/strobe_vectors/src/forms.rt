@@ -3,6 +3,9 @@ use crate::data;
 use crate::line;
 use crate::numbered::step;
 use crate::output;
+use crate::refusals;
+use strobe::Flags;
+use strobe::Last;
 use strobe::Level;
 use strobe::Outcome;
 use strobe::Session;
@@ -151,14 +154,21 @@ fn at_level(level: Level) -> Session {
     loaded
 }
 
-// 8 comes before 11.
-fn write_blanks() {
-    let session = Session::blank();
-    let answer = saved::save(session, &mut []);
-    line::write(Outcome { session, answer }, b"");
-    let mut form = [0u8; 205];
-    let answer = saved::save(session, &mut form);
-    line::write(Outcome { session, answer }, &form);
+// Sessions that are not well formed: 8 comes before 11, and every byte is kept. The last one's fault is its last operation, which a form does not hold.
+fn write_not_saved() {
+    let state = [0u8; 200];
+    write_rows(saves(Session::blank()));
+    write_rows(saves(refusals::made(state, 134, 0, Last::Nothing)));
+    write_rows(saves(refusals::made(state, 4, 5, Last::Nothing)));
+    write_rows(saves(refusals::made(state, 5, 5, Last::Op(Flags(0x05)))));
+}
+
+// 461 bytes, which is 205 and 256: a refused load, and a call on what it gave.
+fn write_refused() {
+    let long = [1u8; 461];
+    let out = saved::load(&long);
+    line::write(out, b"");
+    step(out.session, 0x02, false, 3);
 }
 
 pub fn write() {
@@ -167,5 +177,6 @@ pub fn write() {
     let session = at_level(Level::B256);
     write_rows(saves(session));
     write_rows(by_length(long_form(session)));
-    write_blanks();
+    write_not_saved();
+    write_refused();
 }

@@ -37,7 +37,8 @@ fn limits(s: Session) {
     step(s, 0x0d, false, 64);
 }
 
-fn made(state: [u8; 200], pos: usize, begin: usize, last: Last) -> Session {
+// Of level 256.
+pub fn made(state: [u8; 200], pos: usize, begin: usize, last: Last) -> Session {
     Session {
         state,
         level: Level::B256,

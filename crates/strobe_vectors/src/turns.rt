@@ -169,8 +169,8 @@ fn usual(byte: u8, more: bool, size: usize) -> Way {
 }
 
 // Every flag byte without K, turn after turn.
-fn every_byte() -> Session {
-    let mut session = Session::new(&data::NAME, Level::B128).session;
+fn every_byte(level: Level) -> Session {
+    let mut session = Session::new(&data::NAME, level).session;
     let mut byte: u8 = 0;
     while byte < 0x20 {
         session = take(session, usual(byte, false, 20));
@@ -180,7 +180,8 @@ fn every_byte() -> Session {
 }
 
 pub fn write() {
-    let session = every_byte();
+    every_byte(Level::B256);
+    let session = every_byte(Level::B128);
     // the operation goes on with the event
     let session = take(session, usual(0x02, true, 70));
     // refused: K, not the last operation, a MAC too long, a ratchet too long, a buffer too short to save into

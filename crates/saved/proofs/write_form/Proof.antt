@@ -4,7 +4,7 @@ use native.Mathlib.Omega.{arith}
 use lib.ListN.{length, length-set}
 use borrow.Author.Needs.{needs}
 use borrow.Rule.Slice.PartMut.{putMid}
-use Rattle.saved.proofs.Copy.{head5, form-written, written-length}
+use Rattle.saved.proofs.Copy.{headed, form-written, written-length}
 use Rattle.saved.proofs.write_form.Statement.{statement}
 use Rattle.saved.proofs.write_form.Tie as tie
 
@@ -23,7 +23,7 @@ slice-write-buf-5 c = simp length-set (omega arith)
 returns : tie.Need-returns
 returns c =
     let a = c .before .before .before .before .before .before .args in
-    ap (putMid 5 200 (head5 (a .buf .now) 1 (a .level) (a .pos) (a .begin) (a .direction))) (c .before .before .copy .ensures .1)
+    ap (putMid 5 200 (headed (a .buf .now) 1 (a .level) (a .pos) (a .begin) (a .direction))) (c .before .before .copy .ensures .1)
     ∙ form-written (a .buf .now) (a .t5) 1 (a .level) (a .pos) (a .begin) (a .direction) (search needs) (c .before .before .before .before .before .before .pre)
 
 same-length : tie.Need-same-length
