@@ -41,6 +41,11 @@ fn overnight(session: Session) -> Session {
     let mut form = [0u8; 205];
     saved::save(session, &mut form);
     let morning = saved::load(&form);
+    let answer = morning.answer;
+    let Answer::Done = answer else {
+        write_text(b"there was no session to save");
+        return morning.session;
+    };
     morning.session
 }
 
