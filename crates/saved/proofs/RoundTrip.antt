@@ -21,37 +21,37 @@ use Rattle.strobe.specs.declared.level.Level.{Level}
 use Rattle.strobe.specs.declared.level.Level.the-variants.{B128, B256}
 use Rattle.strobe.specs.declared.session.Session.{Session}
 use Rattle.saved.specs.AfterLoad.{withoutLast}
-use Rattle.saved.specs.Saved.{edition, size, levelByte, directionByte, form, byteAt, levelOf, directionOf, isEdition, fits, isForm, sessionIn, loaded, saving}
+use Rattle.saved.specs.Saved.{edition, size, levelByte, directionByte, form, byteAt, isLevel, isDirection, levelOf, directionOf, isEdition, fits, isForm, sessionIn, loaded, saving}
 use Rattle.saved.proofs.Forms.{a-form}
 
 -- ---- the two bytes that are no numbers, there and back
 
-level-byte-one-of-two : (l : Level) → eqb (levelByte l) 1 || eqb (levelByte l) 2 ≡ true
-level-byte-one-of-two B128 = refl
-level-byte-one-of-two B256 = refl
+level-byte-is-level : (l : Level) → isLevel (levelByte l) ≡ true
+level-byte-is-level B128 = refl
+level-byte-is-level B256 = refl
 
 level-of-byte : (l : Level) → levelOf (levelByte l) ≡ l
 level-of-byte B128 = refl
 level-of-byte B256 = refl
 
-direction-byte-small : (d : Direction) → leb (directionByte d) 2 ≡ true
-direction-byte-small Neither = refl
-direction-byte-small Sender = refl
-direction-byte-small Receiver = refl
+direction-byte-is-direction : (d : Direction) → isDirection (directionByte d) ≡ true
+direction-byte-is-direction Neither = refl
+direction-byte-is-direction Sender = refl
+direction-byte-is-direction Receiver = refl
 
 direction-of-byte : (d : Direction) → directionOf (directionByte d) ≡ d
 direction-of-byte Neither = refl
 direction-of-byte Sender = refl
 direction-of-byte Receiver = refl
 
-level-byte-of : (b : ℕ) → eqb b 1 || eqb b 2 ≡ true → levelByte (levelOf b) ≡ b
+level-byte-of : (b : ℕ) → isLevel b ≡ true → levelByte (levelOf b) ≡ b
 level-byte-of b h = go (eqb b 1) refl h
   where
     go : (t : Bool) → eqb b 1 ≡ t → t || eqb b 2 ≡ true → levelByte (cond t B128 B256) ≡ b
     go true e h = sym (eqb-true b 1 e)
     go false e h = sym (eqb-true b 2 h)
 
-direction-byte-of : (b : ℕ) → leb b 2 ≡ true → directionByte (directionOf b) ≡ b
+direction-byte-of : (b : ℕ) → isDirection b ≡ true → directionByte (directionOf b) ≡ b
 direction-byte-of b h = go (eqb b 0) refl (eqb b 1) refl
   where
     go : (t : Bool) → eqb b 0 ≡ t → (u : Bool) → eqb b 1 ≡ u → directionByte (cond t Neither (cond u Sender Receiver)) ≡ b
@@ -77,19 +77,14 @@ load-of-save s e w =
     let whole : take 200 (s .state) ≡ s .state = take-all 200 (s .state) (omega arith) in
     rw (
       e,
-      level-byte-one-of-two (s .level),
+      level-byte-is-level (s .level),
       level-of-byte (s .level),
       lt-ltb (s .pos) (rateOf (s .level)) (o .below),
       le-leb (s .begin) (s .pos) (o .begun),
-      direction-byte-small (s .direction),
+      direction-byte-is-direction (s .direction),
       direction-of-byte (s .direction),
       whole,
     )
-
--- as the calls see it, it is the session that was saved without its last operation
-pub load-forgets-the-last : (s : Session) → length (s .state) ≡ 200 → wellFormed (rateOf (s .level)) (seen s) ≡ true
-    → seen (loaded (form s) .session) ≡ withoutLast (seen s)
-load-forgets-the-last s e w = ap (λ (g : Given). seen (g .session)) (load-of-save s e w)
 
 -- whatever else the buffer holds: the front is the form, the rest stays
 pub saved-front : (s : Session) (bs : List ℕ) → wellFormed (rateOf (s .level)) (seen s) ≡ true → size ≤ length bs → length (s .state) ≡ 200
@@ -108,10 +103,10 @@ saved-front-loads s bs w h e = ap loaded (saved-front s bs w h e .1) ∙ load-of
 record Fitting (bs : List ℕ) : Type 0 where
   long : length bs ≡ size
   first : byteAt bs 0 ≡ edition
-  level : eqb (byteAt bs 1) 1 || eqb (byteAt bs 1) 2 ≡ true
+  level : isLevel (byteAt bs 1) ≡ true
   below : byteAt bs 2 < rateOf (levelOf (byteAt bs 1))
   begun : byteAt bs 3 ≤ byteAt bs 2
-  direction : leb (byteAt bs 4) 2 ≡ true
+  direction : isDirection (byteAt bs 4) ≡ true
   session : loaded bs ≡ given done (sessionIn bs)
 
 done-form : (bs : List ℕ) → loaded bs .answer ≡ done → isForm bs ≡ true
@@ -128,15 +123,15 @@ fitting bs e =
     let both = done-form bs e in
     let here = and-left (isEdition bs) _ both in
     let there = and-right (isEdition bs) (fits (byteAt bs 1) (byteAt bs 2) (byteAt bs 3) (byteAt bs 4)) both in
-    let after-level = and-right (eqb (byteAt bs 1) 1 || eqb (byteAt bs 1) 2) _ there in
+    let after-level = and-right (isLevel (byteAt bs 1)) _ there in
     let after-pos = and-right (ltb (byteAt bs 2) (rateOf (levelOf (byteAt bs 1)))) _ after-level in
     record {
       long = eqb-true (length bs) size (and-left (eqb (length bs) size) _ here);
       first = eqb-true (byteAt bs 0) edition (and-right (eqb (length bs) size) _ here);
-      level = and-left (eqb (byteAt bs 1) 1 || eqb (byteAt bs 1) 2) _ there;
+      level = and-left (isLevel (byteAt bs 1)) _ there;
       below = ltb-true _ _ (and-left (ltb (byteAt bs 2) (rateOf (levelOf (byteAt bs 1)))) _ after-level);
-      begun = leb-true _ _ (and-left (leb (byteAt bs 3) (byteAt bs 2)) (leb (byteAt bs 4) 2) after-pos);
-      direction = and-right (leb (byteAt bs 3) (byteAt bs 2)) (leb (byteAt bs 4) 2) after-pos;
+      begun = leb-true _ _ (and-left (leb (byteAt bs 3) (byteAt bs 2)) (isDirection (byteAt bs 4)) after-pos);
+      direction = and-right (leb (byteAt bs 3) (byteAt bs 2)) (isDirection (byteAt bs 4)) after-pos;
       session = a-form bs both;
     }
 

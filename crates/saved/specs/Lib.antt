@@ -1,2 +1,3 @@
 pub mod AfterLoad
+pub mod Head
 pub mod Saved

@@ -41,6 +41,12 @@ form s = edition ∷ levelByte (s .level) ∷ s .pos ∷ s .begin ∷ directionB
 abbrev pub byteAt : List ℕ → ℕ → ℕ
 byteAt bs i = getD bs i 0
 
+abbrev pub isLevel : ℕ → Bool
+isLevel b = eqb b (levelByte B128) || eqb b (levelByte B256)
+
+abbrev pub isDirection : ℕ → Bool
+isDirection b = leb b (directionByte Receiver)
+
 -- asked only of a level's byte and of a direction's byte
 abbrev pub levelOf : ℕ → Level
 levelOf b = cond (eqb b (levelByte B128)) B128 B256
@@ -54,8 +60,7 @@ isEdition bs = eqb (length bs) size && eqb (byteAt bs 0) edition
 -- the four bytes after the edition: a level's byte, a position below that level's rate, a begin position at most the position, a direction's byte
 unfoldable pub fits : ℕ → ℕ → ℕ → ℕ → Bool
 fits level pos begin direction =
-    (eqb level (levelByte B128) || eqb level (levelByte B256))
-    && (ltb pos (rateOf (levelOf level)) && (leb begin pos && leb direction (directionByte Receiver)))
+    isLevel level && (ltb pos (rateOf (levelOf level)) && (leb begin pos && isDirection direction))
 
 abbrev pub isForm : List ℕ → Bool
 isForm bs = isEdition bs && fits (byteAt bs 1) (byteAt bs 2) (byteAt bs 3) (byteAt bs 4)

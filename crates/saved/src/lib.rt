@@ -4,7 +4,8 @@ ghost use Prim.Native.Nat.{_≤_};
 ghost use lib.ListN.{length, take, drop};
 ghost use mathlib.Core.List.{_∷_, _++_};
 ghost use Rattle.strobe.specs.Session.{Is};
-ghost use Rattle.saved.specs.Saved.{edition, size, levelByte, directionByte, levelOf, directionOf, isEdition, fits, isForm, loaded, Saves};
+ghost use Rattle.saved.specs.Saved.{edition, size, levelByte, directionByte, levelOf, directionOf, isLevel, isEdition, fits, isForm, loaded, Saves};
+ghost use Rattle.saved.specs.Head.{headIn};
 use strobe::Answer;
 use strobe::Direction;
 use strobe::Last;
@@ -68,22 +69,49 @@ fn is_edition(bytes: &[u8]) -> bool
     bytes[0] == EDITION
 }
 
-// Whether the four bytes after the edition belong to a session.
-fn fits(level: u8, pos: u8, begin: u8, direction: u8) -> bool
-    ensures { λ r. ⌜ r ≡ fits level pos begin direction ⌝ }
+// The four bytes after the edition.
+struct Head {
+    level: u8,
+    pos: u8,
+    begin: u8,
+    direction: u8,
+}
+
+fn head_in(form: &[u8]) -> Head
+    requires { ⌜ size ≤ length (now form) ⌝ }
+    ensures { λ r. ⌜ r ≡ headIn (now (form .entry)) ⌝ }
 {
-    if level != 1 {
-        if level != 2 {
-            return false;
-        }
+    Head {
+        level: form[1],
+        pos: form[2],
+        begin: form[3],
+        direction: form[4],
     }
-    if level_of(level).rate() <= pos as usize {
+}
+
+fn is_level(byte: u8) -> bool
+    ensures { λ r. ⌜ r ≡ isLevel byte ⌝ }
+{
+    if byte == 1 {
+        return true;
+    }
+    byte == 2
+}
+
+// Whether they belong to a session.
+fn fits(head: Head) -> bool
+    ensures { λ r. ⌜ r ≡ fits (head .level) (head .pos) (head .begin) (head .direction) ⌝ }
+{
+    if !is_level(head.level) {
         return false;
     }
-    if pos < begin {
+    if level_of(head.level).rate() <= head.pos as usize {
         return false;
     }
-    direction <= 2
+    if head.pos < head.begin {
+        return false;
+    }
+    head.direction <= 2
 }
 
 // Whether bytes are a session's saved form.
@@ -93,7 +121,7 @@ fn is_form(bytes: &[u8]) -> bool
     if !is_edition(bytes) {
         return false;
     }
-    fits(bytes[1], bytes[2], bytes[3], bytes[4])
+    fits(head_in(bytes))
 }
 
 // The state bytes of a saved form.
@@ -116,12 +144,13 @@ pub fn load(bytes: &[u8]) -> Outcome
             answer: Answer::BadSaved,
         };
     }
+    let head = head_in(bytes);
     let session = Session {
         state: state_in(bytes),
-        level: level_of(bytes[1]),
-        pos: bytes[2] as usize,
-        begin: bytes[3] as usize,
-        direction: direction_of(bytes[4]),
+        level: level_of(head.level),
+        pos: head.pos as usize,
+        begin: head.begin as usize,
+        direction: direction_of(head.direction),
         last: Last::Nothing,
     };
     Outcome {

@@ -10,22 +10,11 @@ use Rattle.saved.proofs.is_form.Tie as tie
 returns : tie.Need-returns
 returns c = rw (sym (c .before .is-edition .ensures) ∙ not-true _ (c .if1 .taken))
 
-shared-slice-read-fits : tie.Need-shared-slice-read-fits
-shared-slice-read-fits c = omega (arith, edition-length _ (sym (c .before .before .is-edition .ensures) ∙ not-false _ (c .before .if1 .left)))
-
-shared-slice-read-fits-2 : tie.Need-shared-slice-read-fits-2
-shared-slice-read-fits-2 c = omega (arith, edition-length _ (sym (c .before .before .before .is-edition .ensures) ∙ not-false _ (c .before .before .if1 .left)))
-
-shared-slice-read-fits-3 : tie.Need-shared-slice-read-fits-3
-shared-slice-read-fits-3 c = omega (arith, edition-length _ (sym (c .before .before .before .before .is-edition .ensures) ∙ not-false _ (c .before .before .before .if1 .left)))
-
-shared-slice-read-fits-4 : tie.Need-shared-slice-read-fits-4
-shared-slice-read-fits-4 c = omega (arith, edition-length _ (sym (c .before .before .before .before .before .is-edition .ensures) ∙ not-false _ (c .before .before .before .before .if1 .left)))
+head-in-requires : tie.Need-head-in-requires
+head-in-requires c κs = omega (arith, edition-length _ (sym (c .before .is-edition .ensures) ∙ not-false _ (c .if1 .left)))
 
 returns-2 : tie.Need-returns-2
-returns-2 c = rw (sym (c .before .before .before .before .before .before .is-edition .ensures) ∙ not-false _ (c .before .before .before .before .before .if1 .left)) (c .fits2 .ensures)
+returns-2 c = rw (sym (c .before .before .before .is-edition .ensures) ∙ not-false _ (c .before .before .if1 .left)) (rw (c .before .head-in .ensures) at (c .fits2 .ensures))
 
 pub is-form-spec : {M : Type 1} → statement M
-is-form-spec =
-    tie.close
-    (tie.spec (λ c κs. search needs) returns shared-slice-read-fits shared-slice-read-fits-2 shared-slice-read-fits-3 shared-slice-read-fits-4 (λ c κs. search needs) returns-2)
+is-form-spec = tie.close (tie.spec (λ c κs. search needs) returns head-in-requires (λ c κs. search needs) returns-2)
