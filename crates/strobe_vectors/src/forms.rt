@@ -4,6 +4,7 @@ use crate::line;
 use crate::numbered::step;
 use crate::output;
 use crate::refusals;
+use strobe::Answer;
 use strobe::Flags;
 use strobe::Last;
 use strobe::Level;
@@ -39,63 +40,20 @@ fn first_calls(session: Session) -> Session {
     step(s, 0x02, true, 3)
 }
 
-fn write_row(row: &[u8]) {
-    output::write_hex(row);
-    output::write_text(b"\n");
+// What is tried with each number below 256.
+enum Trial {
+    // a load of the form with this value of the byte at a place
+    Value(u8),
+    // a load of so many bytes of the form
+    Length,
+    // a save into so many bytes
+    Room,
 }
 
-// Of each case the answer, and one number more.
-struct Rows {
-    answers: [u8; 256],
-    numbers: [u8; 256],
-}
-
-fn write_rows(rows: Rows) {
-    let answers = rows.answers;
-    let numbers = rows.numbers;
-    write_row(&answers);
-    write_row(&numbers);
-}
-
-// The form with another byte at a place.
-fn with(form: [u8; 256], place: u8, value: u8) -> [u8; 256] {
-    let mut bytes = form;
-    bytes[place as usize] = value;
-    bytes
-}
-
-fn load_front(bytes: [u8; 256]) -> Outcome {
-    saved::load(&bytes[0..205])
-}
-
-// Loads of the form with each value of the byte at a place; the positions that they give.
-fn by_value(form: [u8; 256], place: u8) -> Rows {
-    let mut answers = [0u8; 256];
-    let mut numbers = [0u8; 256];
-    let mut value: usize = 0;
-    while value < 256 {
-        let out = load_front(with(form, place, (value % 256) as u8));
-        let answer = out.answer;
-        answers[value] = answer.number();
-        numbers[value] = (out.session.pos % 256) as u8;
-        value += 1;
-    }
-    Rows { answers, numbers }
-}
-
-// Loads of the first so many bytes of the form, for each count; the positions that they give.
-fn by_length(form: [u8; 256]) -> Rows {
-    let mut answers = [0u8; 256];
-    let mut numbers = [0u8; 256];
-    let mut n: usize = 0;
-    while n < 256 {
-        let out = saved::load(&form[0..n]);
-        let answer = out.answer;
-        answers[n] = answer.number();
-        numbers[n] = (out.session.pos % 256) as u8;
-        n += 1;
-    }
-    Rows { answers, numbers }
+// The answer of a trial, and one number more: of a load the position, of a save what is kept of the buffer.
+struct Case {
+    answer: Answer,
+    number: u8,
 }
 
 fn counting() -> [u8; 256] {
@@ -104,7 +62,29 @@ fn counting() -> [u8; 256] {
     bytes
 }
 
-// 3 where a buffer is as it was, 1 where only the bytes behind the form are.
+// The saved form with counting bytes after it.
+fn long_form(session: Session) -> [u8; 256] {
+    let mut buf = counting();
+    saved::save(session, &mut buf);
+    buf
+}
+
+fn with(form: [u8; 256], place: u8, value: u8) -> [u8; 256] {
+    let mut bytes = form;
+    bytes[place as usize] = value;
+    bytes
+}
+
+fn load_first(bytes: [u8; 256], n: u8) -> Case {
+    let out = saved::load(&bytes[0..n as usize]);
+    let answer = out.answer;
+    Case {
+        answer,
+        number: (out.session.pos % 256) as u8,
+    }
+}
+
+// 3 where a buffer is as it was, 1 where only the bytes after the form are.
 fn kept(buf: [u8; 256]) -> u8 {
     let before = counting();
     if check::same(&buf, &before) {
@@ -116,51 +96,69 @@ fn kept(buf: [u8; 256]) -> u8 {
     0
 }
 
-// Saves into the first so many bytes of a buffer, for each count; what is kept of it.
-fn saves(session: Session) -> Rows {
+fn save_first(session: Session, n: u8) -> Case {
+    let mut buf = counting();
+    let answer = saved::save(session, &mut buf[0..n as usize]);
+    Case {
+        answer,
+        number: kept(buf),
+    }
+}
+
+fn tried(session: Session, trial: Trial, n: u8) -> Case {
+    match trial {
+        Trial::Value(place) => load_first(with(long_form(session), place, n), 205),
+        Trial::Length => load_first(long_form(session), n),
+        Trial::Room => save_first(session, n),
+    }
+}
+
+fn write_row(row: &[u8; 256]) {
+    output::write_hex(row);
+    output::write_text(b"\n");
+}
+
+fn write_trial(session: Session, trial: Trial) {
     let mut answers = [0u8; 256];
     let mut numbers = [0u8; 256];
     let mut n: usize = 0;
     while n < 256 {
-        let mut buf = counting();
-        let answer = saved::save(session, &mut buf[0..n]);
+        let case = tried(session, trial, (n % 256) as u8);
+        let answer = case.answer;
         answers[n] = answer.number();
-        numbers[n] = kept(buf);
+        numbers[n] = case.number;
         n += 1;
     }
-    Rows { answers, numbers }
+    write_row(&answers);
+    write_row(&numbers);
 }
 
-// The saved form with counting bytes behind it.
-fn long_form(session: Session) -> [u8; 256] {
-    let mut buf = counting();
-    saved::save(session, &mut buf);
-    buf
-}
-
-fn write_values(form: [u8; 256]) {
-    write_rows(by_value(form, 0));
-    write_rows(by_value(form, 1));
-    write_rows(by_value(form, 2));
-    write_rows(by_value(form, 3));
-    write_rows(by_value(form, 4));
+fn write_values(session: Session) {
+    write_trial(session, Trial::Value(0));
+    write_trial(session, Trial::Value(1));
+    write_trial(session, Trial::Value(2));
+    write_trial(session, Trial::Value(3));
+    write_trial(session, Trial::Value(4));
 }
 
 fn at_level(level: Level) -> Session {
     let fresh = Session::new(&data::NAME, level).session;
     there_and_back(fresh);
     let loaded = first_calls(there_and_back(step(fresh, 0x0f, false, 100)));
-    write_values(long_form(loaded));
+    write_values(loaded);
     loaded
 }
 
 // Sessions that are not well formed: 8 comes before 11, and every byte is kept. The last one's fault is its last operation, which a form does not hold.
 fn write_not_saved() {
     let state = [0u8; 200];
-    write_rows(saves(Session::blank()));
-    write_rows(saves(refusals::made(state, 134, 0, Last::Nothing)));
-    write_rows(saves(refusals::made(state, 4, 5, Last::Nothing)));
-    write_rows(saves(refusals::made(state, 5, 5, Last::Op(Flags(0x05)))));
+    write_trial(Session::blank(), Trial::Room);
+    write_trial(refusals::made(state, 134, 0, Last::Nothing), Trial::Room);
+    write_trial(refusals::made(state, 4, 5, Last::Nothing), Trial::Room);
+    write_trial(
+        refusals::made(state, 5, 5, Last::Op(Flags(0x05))),
+        Trial::Room,
+    );
 }
 
 // 461 bytes, which is 205 and 256: a refused load, and a call on what it gave.
@@ -175,8 +173,8 @@ pub fn write() {
     example();
     at_level(Level::B128);
     let session = at_level(Level::B256);
-    write_rows(saves(session));
-    write_rows(by_length(long_form(session)));
+    write_trial(session, Trial::Room);
+    write_trial(session, Trial::Length);
     write_not_saved();
     write_refused();
 }
