@@ -1,0 +1,10 @@
+pub mod Xor
+pub mod Rules
+pub mod Turned
+pub mod Mirror
+pub mod Usable
+pub mod Course
+pub mod Answers
+pub mod Replay
+pub mod Strobe
+pub mod Played

@@ -1,0 +1,54 @@
+-- Replay of STROBE itself: Keccak-f[1600] as FIPS 202 defines it, either level, saved and loaded anywhere. Assumes nothing.
+use Prim.Native.Nat.{ℕ, _<_}
+use mathlib.Core.Path.{_≡_, refl, sym, ap, _∙_}
+use mathlib.Core.List.{List}
+use mathlib.Core.Bool.{true, false}
+use lib.ListN.{length}
+use native.Mathlib.Omega.{arith}
+use Rattle.fips202.proofs.Permutation.{keccakF1600-length}
+use Rattle.laws.proofs.Bools.{true-not-false}
+use Rattle.saved.proofs.RoundTrip.{load-of-save}
+use Rattle.saved.specs.AfterLoad.{withoutLast}
+use Rattle.saved.specs.Saved.{form, loaded}
+use Rattle.strobe.specs.Session.{rateOf, spongeOf, seen, held, Given}
+use Rattle.strobe.specs.Strobe.{Strobe, isLast, unnamed, fresh}
+use Rattle.strobe.specs.declared.flags.Flags.{Flags}
+use Rattle.strobe.specs.declared.level.Level.{Level}
+use Rattle.strobe.specs.declared.level.Level.the-variants.{B128, B256}
+use Rattle.replay.specs.Editions.{Edition, edition1, reloaded}
+use Rattle.replay.specs.History.{Act, Entry, ends, log, operations}
+use Rattle.replay.specs.Mirror.{Mirrors, Each}
+use Rattle.replay.specs.Reload.{Sound, Usable, Kept, Keeps}
+use Rattle.replay.specs.Replay.{NoneRejected, Replayed}
+use Rattle.replay.specs.Whole.{Course}
+use Rattle.replay.proofs.Course.{course}
+use Rattle.replay.proofs.Replay.{replay}
+
+rate-positive : (l : Level) → 0 < rateOf l
+rate-positive B128 = omega arith
+rate-positive B256 = omega arith
+
+pub sound : (l : Level) → Sound (spongeOf l)
+sound l = record { keeps = λ st e. keccakF1600-length st; rated = rate-positive l; roomy = omega arith }
+
+-- a load undoes a save but for the last operation
+pub reloaded-is : (l : Level) (s : Strobe) → Usable (spongeOf l) s → reloaded l edition1 s ≡ withoutLast s
+unfolding reloaded
+reloaded-is l s u = ap (λ (g : Given). seen (g .session)) (load-of-save (held l s) (u .sized) (u .well))
+
+pub reload-keeps : (l : Level) (e : Edition) → Keeps (spongeOf l) (reloaded l e)
+reload-keeps l edition1 s u = rw (reloaded-is l s u) (record { duplex = refl; direction = refl; last = λ f e. absurd (true-not-false e refl); known = refl })
+
+module _ (l : Level) (name : List ℕ) where
+  abbrev pub logOf : List (Act Edition) → List Entry
+  logOf acts = log (spongeOf l) (reloaded l) (fresh (spongeOf l) name) acts
+
+  abbrev pub endOf : List (Act Edition) → Strobe
+  endOf acts = ends (spongeOf l) (reloaded l) (fresh (spongeOf l) name) acts
+
+  pub strobe-course : (a : List (Act Edition)) → Course (spongeOf l) (unnamed (spongeOf l)) (operations name (logOf a)) (endOf a)
+  strobe-course = course (spongeOf l) (sound l) (reloaded l) (reload-keeps l) name
+
+  pub strobe-replay : (a b : List (Act Edition)) → NoneRejected (logOf a) → Each Mirrors (operations name (logOf a)) (operations name (logOf b))
+      → Replayed name (logOf a) (logOf b) (endOf a) (endOf b)
+  strobe-replay = replay (spongeOf l) (sound l) (reloaded l) (reload-keeps l) name

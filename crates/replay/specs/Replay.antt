@@ -1,0 +1,26 @@
+-- What replay concludes.
+use mathlib.Core.List.{List}
+use mathlib.Core.Logic.{_≢_}
+use mathlib.Core.Path.{_≡_}
+use Prim.Native.Nat.{ℕ}
+use Rattle.strobe.specs.Answer.{done, macUnequal}
+use Rattle.strobe.specs.Every.{Every}
+use Rattle.strobe.specs.Strobe.{Strobe}
+use Rattle.replay.specs.History.{Entry, struck, operations}
+use Rattle.replay.specs.Mirror.{Agrees, Each, opposite}
+
+-- no call rejected a MAC
+abbrev pub NoneRejected : List Entry → Type 0
+NoneRejected es = Every (λ (e : Entry). e .answer ≢ macUnequal) es
+
+-- the calls es of the first end led to s, the calls fs of the second to t
+pub record Replayed (name : List ℕ) (es fs : List Entry) (s t : Strobe) : Type 0 where
+  -- every call of the second that is not struck out is done: it accepts every MAC
+  pub accepts : Every (λ (e : Entry). e .answer ≡ done) (struck fs)
+  -- it draws the same prf bytes, knows every plaintext, and sent what the first received
+  pub agrees : Each Agrees (operations name es) (operations name fs)
+  -- both end with equal state bytes and positions, facing each other
+  pub state : t .duplex .st ≡ s .duplex .st
+  pub pos : t .duplex .pos ≡ s .duplex .pos
+  pub begin : t .duplex .begin ≡ s .duplex .begin
+  pub direction : t .direction ≡ opposite (s .direction)
