@@ -8,3 +8,8 @@ pub mod Answers
 pub mod Replay
 pub mod Strobe
 pub mod Played
+pub mod Strike
+pub mod Cuts
+pub mod Possible
+pub mod Cutting
+pub mod Variants

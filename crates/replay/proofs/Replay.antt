@@ -15,12 +15,12 @@ use Rattle.replay.proofs.Mirror.{Faces, Faced, faced}
 
 -- ---- operations and their mirrors, one after another
 
-record Facing (os ps : List Joined) (s t : Strobe) : Type 0 where
-  agrees : Each Agrees os ps
-  faces : Faces s t
+pub record Facing (os ps : List Joined) (s t : Strobe) : Type 0 where
+  pub agrees : Each Agrees os ps
+  pub faces : Faces s t
 
 module _ (sp : Sponge) where
-  facing : (os ps : List Joined) (s t s′ t′ : Strobe) → Faces s t → Course sp s os s′ → OperationsDone os → Course sp t ps t′ → Each Mirrors os ps
+  pub facing : (os ps : List Joined) (s t s′ t′ : Strobe) → Faces s t → Course sp s os s′ → OperationsDone os → Course sp t ps t′ → Each Mirrors os ps
       → Facing os ps s′ t′
   facing [] [] s t s′ t′ f co z cp m =
       record {

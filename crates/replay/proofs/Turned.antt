@@ -1,12 +1,12 @@
 -- The mirror's flags, tested at each of the twenty: the operation is the other end's, the same bytes open it, and the directions stay opposite. Assumes nothing.
 use Prim.Native.Nat.{ℕ}
 use mathlib.Core.Path.{_≡_, refl, ap}
-use mathlib.Core.Bool.{Bool, true}
+use mathlib.Core.Bool.{Bool, true, false}
 use Rattle.laws.proofs.Bools.{true-not-false}
 use Rattle.strobe.proofs.Twenty.{at-each, handled-as}
 use Rattle.strobe.specs.Duplex.{Sponge, Duplex}
 use Rattle.strobe.specs.Every.{Every}
-use Rattle.strobe.specs.Flags.{C, has, operationOf, operation, known}
+use Rattle.strobe.specs.Flags.{C, K, has, operationOf, operation, known}
 use Rattle.strobe.specs.Loops.{takers, changers, macs, ratchets}
 use Rattle.strobe.specs.Strobe.{mixed, directed, forced, beginOp}
 use Rattle.strobe.specs.declared.direction.Direction.{Direction}
@@ -91,6 +91,14 @@ turns =
     (refl, (refl, tt))
     (refl, (refl, tt))
 
+pub known-no-key : (f : Flags) → known (operation f) ≡ true → has f K ≡ false
+known-no-key =
+    at-known (λ f. has f K ≡ false)
+    (refl, (refl, (refl, (refl, (refl, (refl, (refl, (refl, tt))))))))
+    (refl, (refl, (refl, (refl, (refl, (refl, (refl, (refl, tt))))))))
+    (refl, (refl, tt))
+    (refl, (refl, tt))
+
 -- ---- one by one
 
 pub turned-operation : (f : Flags) → known (operation f) ≡ true → operation (mirrored f) ≡ other (operation f)
@@ -115,3 +123,19 @@ pub turned-begins : (sp : Sponge) (f : Flags) → known (operation f) ≡ true �
     → beginOp sp (directed (opposite dir) (mirrored f)) (mirrored f) d ≡ beginOp sp (directed dir f) f d
 unfolding beginOp forced
 turned-begins sp f k dir d = rw (turned-mixed f k dir, turned-closes f k)
+
+pub turned-known : (f : Flags) → known (operation f) ≡ true → known (operation (mirrored f)) ≡ true
+turned-known f k = rw (turned-operation f k) (go (operation f) k)
+  where
+    go : (o : Operation) → known o ≡ true → known (other o) ≡ true
+    go Ad k = refl
+    go Ratchet k = refl
+    go Key k = refl
+    go Prf k = refl
+    go SendClr k = refl
+    go RecvClr k = refl
+    go SendMac k = refl
+    go RecvMac k = refl
+    go SendEnc k = refl
+    go RecvEnc k = refl
+    go Unknown k = k

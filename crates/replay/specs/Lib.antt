@@ -4,4 +4,7 @@ pub mod Mirror
 pub mod Reload
 pub mod Editions
 pub mod Played
+pub mod Strike
+pub mod Cuts
+pub mod Variants
 pub mod Replay

@@ -1,17 +1,22 @@
 -- What replay concludes.
+use mathlib.Core.Bool.{false}
 use mathlib.Core.List.{List}
 use mathlib.Core.Logic.{_≢_}
 use mathlib.Core.Path.{_≡_}
 use Prim.Native.Nat.{ℕ}
-use Rattle.strobe.specs.Answer.{done, macUnequal}
+use Rattle.strobe.specs.Answer.{done, macUnequal, refuses}
 use Rattle.strobe.specs.Every.{Every}
 use Rattle.strobe.specs.Strobe.{Strobe}
-use Rattle.replay.specs.History.{Entry, struck, operations}
+use Rattle.replay.specs.History.{Entry, struck, Joined, operations}
 use Rattle.replay.specs.Mirror.{Agrees, Each, opposite}
 
 -- no call rejected a MAC
 abbrev pub NoneRejected : List Entry → Type 0
 NoneRejected es = Every (λ (e : Entry). e .answer ≢ macUnequal) es
+
+-- no call was refused
+abbrev pub NoneRefused : List Entry → Type 0
+NoneRefused es = Every (λ (e : Entry). refuses (e .answer) ≡ false) es
 
 -- the calls es of the first end led to s, the calls fs of the second to t
 pub record Replayed (name : List ℕ) (es fs : List Entry) (s t : Strobe) : Type 0 where
@@ -24,3 +29,14 @@ pub record Replayed (name : List ℕ) (es fs : List Entry) (s t : Strobe) : Type
   pub pos : t .duplex .pos ≡ s .duplex .pos
   pub begin : t .duplex .begin ≡ s .duplex .begin
   pub direction : t .direction ≡ opposite (s .direction)
+
+-- ---- another way to cut, at the same end
+
+pub record Alike (o p : Joined) : Type 0 where
+  pub flags : p .flags ≡ o .flags
+  pub bytes : p .bytes ≡ o .bytes
+
+pub record Same (os ps : List Joined) (s t : Strobe) : Type 0 where
+  pub operations : ps ≡ os
+  pub duplex : t .duplex ≡ s .duplex
+  pub direction : t .direction ≡ s .direction
