@@ -1,15 +1,15 @@
 -- Answers of calls and of the operations that they are joined into: all are 0 in the one just when they are in the other. Assumes nothing.
 use Prim.Native.Nat.{ℕ}
 use mathlib.Core.Path.{_≡_, refl}
-use mathlib.Core.Logic.{_≢_}
 use mathlib.Core.List.{List, [], _∷_}
-use mathlib.Core.Bool.{Bool, true, false, not, cond, _||_}
+use mathlib.Core.Bool.{Bool, true, false, cond, _||_}
 use lib.Dec.{eqb}
 use borrow.Author.Tests.{eqb-true, eqb-false, not-false}
 use Rattle.strobe.specs.Answer.{done, macUnequal, refuses}
 use Rattle.strobe.specs.Every.{Every}
+use Rattle.replay.specs.Each.{Each}
 use Rattle.replay.specs.History.{Entry, struck, Joined, begun, carriedOn, joined}
-use Rattle.replay.specs.Mirror.{Agrees, Each}
+use Rattle.replay.specs.Mirror.{Agrees}
 use Rattle.replay.specs.Replay.{NoneRejected}
 
 abbrev pub CallsDone : List Entry → Type 0

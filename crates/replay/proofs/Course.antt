@@ -3,17 +3,15 @@ use Prim.Native.Nat.{ℕ, zero, suc}
 use mathlib.Core.Path.{_≡_, refl, sym, ap, ap₂, _∙_, subst}
 use mathlib.Core.List.{List, [], _∷_, _++_}
 use mathlib.Core.Bool.{Bool, true, false, not, cond, _&&_}
-use lib.Dec.{eqb}
 use lib.ListN.{length}
 use borrow.Author.Tests.{eqb-true, not-false}
 use Rattle.strobe.proofs.Accepted.{Passed, passed-of, refusal-refuses, call-done}
 use Rattle.strobe.proofs.Data.{after-append, out-append, out-kept}
 use Rattle.strobe.specs.Answer.{refuses}
-use Rattle.strobe.specs.Duplex.{Sponge, Duplex, after, out, met, same}
+use Rattle.strobe.specs.Duplex.{Sponge, Duplex, out, met, same}
 use Rattle.strobe.specs.Flags.{META-AD, operationOf, operation, known, isRecvMac, absorbing, ruleOf}
 use Rattle.strobe.specs.Runs.{Call, effect}
-use Rattle.strobe.specs.Strobe.{Strobe, Effect, directed, opened, isLast, knownLast, wellFormed, refusal, verdict, worked, settled, call, unnamed, fresh}
-use Rattle.strobe.specs.declared.direction.Direction.{Direction}
+use Rattle.strobe.specs.Strobe.{Strobe, Effect, opened, isLast, refusal, verdict, worked, settled, call, unnamed, fresh}
 use Rattle.strobe.specs.declared.flags.Flags.{Flags}
 use Rattle.strobe.specs.declared.flags.Operation.{Operation}
 use Rattle.replay.specs.History.{Act, ask, reload, Entry, entry, ends, log, struck, Joined, begun, carriedOn, joined, naming, operations}

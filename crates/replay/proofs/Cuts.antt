@@ -2,7 +2,7 @@
 use Prim.Native.Nat.{ℕ}
 use mathlib.Core.Path.{_≡_, refl, sym, ap, _∙_, subst}
 use mathlib.Core.List.{List, [], _∷_, _++_, map, flatten, append-assoc, append-nil}
-use mathlib.Core.Bool.{Bool, true, false, not, cond, _&&_}
+use mathlib.Core.Bool.{Bool, true, false, not, _&&_}
 use lib.ListN.{length}
 use native.Mathlib.Omega.{arith}
 use Rattle.laws.proofs.Bools.{true-not-false}
@@ -12,11 +12,12 @@ use Rattle.strobe.specs.Duplex.{Sponge}
 use Rattle.strobe.specs.Every.{Every}
 use Rattle.strobe.specs.Flags.{META-AD, operationOf, operation, known, isRecvMac, overLimit}
 use Rattle.strobe.specs.Runs.{Call, effect}
-use Rattle.strobe.specs.Strobe.{Strobe, Effect, opened, isLast, refusal, worked, call, unnamed, fresh}
+use Rattle.strobe.specs.Strobe.{Strobe, Effect, opened, isLast, refusal, worked, unnamed, fresh}
 use Rattle.strobe.specs.declared.flags.Flags.{Flags}
-use Rattle.replay.specs.Cuts.{Cut, bytesOf, Cuts, calling, callsOf, mirroring, answering}
-use Rattle.replay.specs.History.{Act, ask, Entry, entry, log, struck, Joined, begun, carriedOn, joined, naming, operations}
-use Rattle.replay.specs.Mirror.{mirrored, Lends, Mirrors, Each}
+use Rattle.replay.specs.Cuts.{Cut, Cuts, calling, mirroring, answering}
+use Rattle.replay.specs.Each.{Each}
+use Rattle.replay.specs.History.{Act, Entry, entry, log, struck, Joined, begun, carriedOn, joined, naming, operations}
+use Rattle.replay.specs.Mirror.{mirrored, Lends, Mirrors}
 use Rattle.replay.specs.Reload.{Sound, Usable}
 use Rattle.replay.specs.Replay.{NoneRefused}
 use Rattle.replay.proofs.Course.{worked-stays}

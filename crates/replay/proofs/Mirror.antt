@@ -2,18 +2,16 @@
 -- answered 0. Assumes nothing.
 use Prim.Native.Nat.{ℕ}
 use mathlib.Core.Path.{_≡_, refl, sym, ap, ap₂, _∙_}
-use mathlib.Core.List.{List}
 use mathlib.Core.Bool.{Bool, true, false, not, cond}
 use native.Mathlib.Omega.{arith}
 use Rattle.strobe.proofs.Data.{out-kept}
-use Rattle.strobe.specs.Duplex.{Sponge, Duplex, after, out, met, same}
+use Rattle.strobe.specs.Duplex.{Sponge, Duplex, Rule, after, out, met, same}
 use Rattle.strobe.specs.Flags.{operation, absorbing, overwriting, zeroing, squeezing, copying, enciphering, deciphering, ruleOf}
-use Rattle.strobe.specs.Strobe.{Strobe, directed, opened, verdict, worked}
-use Rattle.strobe.specs.declared.direction.Direction.{Direction}
+use Rattle.strobe.specs.Strobe.{Strobe, opened, verdict, worked}
 use Rattle.strobe.specs.declared.flags.Operation.{Operation}
 use Rattle.strobe.specs.declared.flags.Operation.the-variants.{Ad, Ratchet, Key, Prf, SendClr, RecvClr, SendMac, RecvMac, SendEnc, RecvEnc, Unknown}
 use Rattle.replay.specs.History.{Joined}
-use Rattle.replay.specs.Mirror.{mirrored, Lends, Gets, Mirrors, Agrees, opposite}
+use Rattle.replay.specs.Mirror.{Lends, Gets, Mirrors, Agrees, opposite}
 use Rattle.replay.specs.Whole.{whole, Right}
 use Rattle.replay.proofs.Rules.{same-refl, same-equal, after-blind, out-blind, after-through, out-through, after-met, out-met}
 use Rattle.replay.proofs.Turned.{other, turned-operation, turned-directed, turned-begins}
@@ -37,24 +35,31 @@ module _ (sp : Sponge) where
     pub answer : verdict sp (other o) d (b .bytes) ≡ 0
 
   module _ (d : Duplex) (a b : Joined) where
-    -- both take the same bytes in, and keep them
-    kept-row : b .bytes ≡ a .bytes → b .lent ≡ out sp absorbing d (b .bytes)
-        → (after sp absorbing d (b .bytes) ≡ after sp absorbing d (a .bytes)) × (b .lent ≡ b .bytes)
-    kept-row e g = (rw e, g ∙ out-kept sp absorbing d (b .bytes) (λ s c. refl))
+    -- a rule that keeps the lent bytes
+    keeps-bytes : (r : Rule) → ((s c : ℕ) → r .buffer s c ≡ c) → b .lent ≡ out sp r d (b .bytes) → b .lent ≡ b .bytes
+    keeps-bytes r h gb = gb ∙ out-kept sp r d (b .bytes) h
 
-    -- clear bytes are the same on their way
-    clear : a .lent ≡ out sp absorbing d (a .bytes) → b .bytes ≡ a .lent → b .bytes ≡ a .bytes
-    clear ga le = le ∙ ga ∙ out-kept sp absorbing d (a .bytes) (λ s c. refl)
+    -- a rule r and a rule r′ that undoes it: lent what r gave back, r′ leaves what r left, and gives back what r was lent
+    undone : (r r′ : Rule) → ((s c : ℕ) → r′ .state s (r .buffer s c) ≡ r .state s c) → ((s c : ℕ) → r′ .buffer s (r .buffer s c) ≡ c)
+        → a .lent ≡ out sp r d (a .bytes) → b .lent ≡ out sp r′ d (b .bytes) → b .bytes ≡ a .lent
+        → (after sp r′ d (b .bytes) ≡ after sp r d (a .bytes)) × (b .lent ≡ a .bytes)
+    undone r r′ state buffer ga gb le =
+        let p : b .bytes ≡ out sp r d (a .bytes) = le ∙ ga in (
+          ap (after sp r′ d) p ∙ after-through sp r r′ state d (a .bytes),
+          gb ∙ ap (out sp r′ d) p
+              ∙ out-through sp r r′ state (λ s c. c) buffer d (a .bytes)
+              ∙ out-kept sp (record { state = r .state; buffer = λ s c. c }) d (a .bytes) (λ s c. refl),
+        )
 
     pub answered : (o : Operation) → a .lent ≡ out sp (ruleOf o) d (a .bytes) → verdict sp o d (a .bytes) ≡ 0
         → b .lent ≡ out sp (ruleOf (other o)) d (b .bytes) → Lends o a (b .bytes) → Answered o d a b
     unfolding verdict
-    answered Ad ga va gb le = let k = kept-row le gb in record { duplex = k .0; gets = k .1; answer = refl }
-    answered Key ga va gb le = record { duplex = rw le; gets = gb ∙ out-kept sp overwriting d (b .bytes) (λ s c. refl); answer = refl }
+    answered Ad ga va gb le = record { duplex = ap (after sp absorbing d) le; gets = keeps-bytes absorbing (λ s c. refl) gb; answer = refl }
+    answered Key ga va gb le = record { duplex = ap (after sp overwriting d) le; gets = keeps-bytes overwriting (λ s c. refl) gb; answer = refl }
     answered Ratchet ga va gb le =
         record {
           duplex = after-blind sp zeroing (λ s x y. refl) d (b .bytes) (a .bytes) le;
-          gets = gb ∙ out-kept sp zeroing d (b .bytes) (λ s c. refl);
+          gets = keeps-bytes zeroing (λ s c. refl) gb;
           answer = refl;
         }
     answered Prf ga va gb le =
@@ -64,11 +69,13 @@ module _ (sp : Sponge) where
           answer = refl;
         }
     answered SendClr ga va gb le =
-        let k = kept-row (clear ga le) gb in
-        record { duplex = k .0; gets = k .1 ∙ clear ga le; answer = refl }
+        let u = undone absorbing absorbing (λ s c. refl) (λ s c. refl) ga gb le in record { duplex = u .0; gets = u .1; answer = refl }
     answered RecvClr ga va gb le =
-        let k = kept-row (clear ga le) gb in
-        record { duplex = k .0; gets = k .1 ∙ clear ga le; answer = refl }
+        let u = undone absorbing absorbing (λ s c. refl) (λ s c. refl) ga gb le in record { duplex = u .0; gets = u .1; answer = refl }
+    answered SendEnc ga va gb le =
+        let u = undone enciphering deciphering (λ s c. refl) xor-back ga gb le in record { duplex = u .0; gets = u .1; answer = refl }
+    answered RecvEnc ga va gb le =
+        let u = undone deciphering enciphering xor-back xor-back ga gb le in record { duplex = u .0; gets = u .1; answer = refl }
     answered SendMac ga va gb le =
         let p : b .bytes ≡ out sp copying d (a .bytes) = le ∙ ga in
         let own : met sp overwriting d (b .bytes) ≡ b .bytes =
@@ -76,8 +83,8 @@ module _ (sp : Sponge) where
         ∙ out-through sp copying (record { state = overwriting .state; buffer = λ s c. s }) (λ s c. refl) (λ s c. s) (λ s c. refl) d (a .bytes)
         ∙ sym p in
         record {
-          duplex = rw p (after-through sp copying overwriting (λ s c. refl) d (a .bytes));
-          gets = gb ∙ out-kept sp overwriting d (b .bytes) (λ s c. refl);
+          duplex = ap (after sp overwriting d) p ∙ after-through sp copying overwriting (λ s c. refl) d (a .bytes);
+          gets = keeps-bytes overwriting (λ s c. refl) gb;
           answer = rw (own, same-refl (b .bytes));
         }
     answered RecvMac ga va gb le =
@@ -86,26 +93,6 @@ module _ (sp : Sponge) where
         record {
           duplex = after-blind sp copying (λ s x y. refl) d (b .bytes) (a .bytes) le ∙ after-met sp d (a .bytes) own;
           gets = gb ∙ out-blind sp copying (λ s x y. refl) (λ s x y. refl) d (b .bytes) (a .bytes) le ∙ out-met sp d (a .bytes) own;
-          answer = refl;
-        }
-    answered SendEnc ga va gb le =
-        let p : b .bytes ≡ out sp enciphering d (a .bytes) = le ∙ ga in
-        record {
-          duplex = rw p (after-through sp enciphering deciphering (λ s c. refl) d (a .bytes));
-          gets =
-              gb ∙ ap (out sp deciphering d) p
-              ∙ out-through sp enciphering deciphering (λ s c. refl) (λ s c. c) xor-back d (a .bytes)
-              ∙ out-kept sp (record { state = enciphering .state; buffer = λ s c. c }) d (a .bytes) (λ s c. refl);
-          answer = refl;
-        }
-    answered RecvEnc ga va gb le =
-        let p : b .bytes ≡ out sp deciphering d (a .bytes) = le ∙ ga in
-        record {
-          duplex = rw p (after-through sp deciphering enciphering xor-back d (a .bytes));
-          gets =
-              gb ∙ ap (out sp enciphering d) p
-              ∙ out-through sp deciphering enciphering xor-back (λ s c. c) xor-back d (a .bytes)
-              ∙ out-kept sp (record { state = deciphering .state; buffer = λ s c. c }) d (a .bytes) (λ s c. refl);
           answer = refl;
         }
     answered Unknown ga va gb le = absurd le

@@ -1,8 +1,8 @@
 -- Replay of the code: of two runs of the library's functions, what the calls of the first returned and what those of the second must return. Assumes nothing.
 use Prim.Native.Nat.{ℕ, _≤_}
-use mathlib.Core.Path.{_≡_, refl, sym, ap, ap₂, _∙_, subst}
+use mathlib.Core.Path.{_≡_, refl, sym, ap, ap₂, _∙_}
 use mathlib.Core.List.{List, [], _∷_, _++_}
-use mathlib.Core.Bool.{Bool, true, false, not, cond}
+use mathlib.Core.Bool.{Bool, true, false, cond}
 use lib.Dec.{ltb}
 use lib.ListN.{length, take, drop}
 use borrow.Author.Tests.{ltb-false}
@@ -10,7 +10,7 @@ use native.Mathlib.Omega.{arith}
 use Rattle.saved.proofs.RoundTrip.{load-of-save, saved-front}
 use Rattle.saved.specs.Saved.{size, form, loaded, Saving, saving, Saves}
 use Rattle.strobe.specs.Answer.{number, done, shortBuffer}
-use Rattle.strobe.specs.Runs.{Call, effect}
+use Rattle.strobe.specs.Runs.{effect}
 use Rattle.strobe.specs.Session.{rateOf, spongeOf, seen, held, Given, Is}
 use Rattle.strobe.specs.Strobe.{Strobe, Effect, wellFormed, unnamed, fresh}
 use Rattle.strobe.specs.declared.answer.Answer.{Answer}
@@ -18,10 +18,11 @@ use Rattle.strobe.specs.declared.answer.Answer.the-variants.{Done}
 use Rattle.strobe.specs.declared.level.Level.{Level}
 use Rattle.strobe.specs.declared.session.Outcome.{Outcome}
 use Rattle.strobe.specs.declared.session.Session.{Session}
-use Rattle.replay.specs.Played.{Step, called, savedAndLoaded, Returns, Played, entries, acts}
-use Rattle.replay.specs.Editions.{Edition, edition1, reloaded}
+use Rattle.replay.specs.Each.{Each}
+use Rattle.replay.specs.Editions.{edition1, reloaded}
 use Rattle.replay.specs.History.{Entry, entry, ends, log, operations}
-use Rattle.replay.specs.Mirror.{Mirrors, Each}
+use Rattle.replay.specs.Mirror.{Mirrors}
+use Rattle.replay.specs.Played.{Step, called, savedAndLoaded, Returns, Played, entries, acts}
 use Rattle.replay.specs.Reload.{Usable}
 use Rattle.replay.specs.Replay.{NoneRejected, Replayed}
 use Rattle.replay.specs.Whole.{Course}

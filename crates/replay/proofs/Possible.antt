@@ -6,19 +6,18 @@ use mathlib.Core.List.{List, [], _∷_, _++_, map, flatten, append-assoc, append
 use mathlib.Core.Bool.{Bool, true, false, cond}
 use lib.ListN.{length}
 use borrow.Author.Tests.{le-ltb}
-use native.Mathlib.Omega.{arith}
 use Rattle.laws.proofs.Bools.{true-not-false}
 use Rattle.strobe.proofs.Data.{out-length}
-use Rattle.strobe.specs.Duplex.{Sponge, Duplex, out}
+use Rattle.strobe.specs.Duplex.{Sponge}
 use Rattle.strobe.specs.Every.{Every}
 use Rattle.strobe.specs.Flags.{META-AD, operation, known, isRecvMac, macLimit, overLimit, ruleOf}
 use Rattle.strobe.specs.Strobe.{Strobe, opened, worked, unnamed, fresh}
-use Rattle.strobe.specs.declared.flags.Flags.{Flags}
 use Rattle.strobe.specs.declared.flags.Operation.{Operation}
 use Rattle.strobe.specs.declared.flags.Operation.the-variants.{Ad, Ratchet, Key, Prf, SendClr, RecvClr, SendMac, RecvMac, SendEnc, RecvEnc, Unknown}
 use Rattle.replay.specs.Cuts.{Cut, bytesOf, Cuts, answering, MacFits}
+use Rattle.replay.specs.Each.{Each}
 use Rattle.replay.specs.History.{Act, Entry, ends, log, struck, Joined, begun, carriedOn, joined, naming, operations}
-use Rattle.replay.specs.Mirror.{mirrored, Lends, Mirrors, Each}
+use Rattle.replay.specs.Mirror.{mirrored, Lends, Mirrors}
 use Rattle.replay.specs.Reload.{Sound, Keeps}
 use Rattle.replay.specs.Replay.{NoneRejected, NoneRefused, Replayed}
 use Rattle.replay.specs.Whole.{whole, Right, Course}

@@ -1,11 +1,12 @@
 -- Replay, over any sponge and any reload that keeps state, positions and direction. Assumes nothing.
 use Prim.Native.Nat.{ℕ}
-use mathlib.Core.Path.{_≡_, refl, sym, ap, _∙_}
+use mathlib.Core.Path.{refl, sym, ap, _∙_}
 use mathlib.Core.List.{List, [], _∷_}
 use Rattle.strobe.specs.Duplex.{Sponge, Duplex}
 use Rattle.strobe.specs.Strobe.{Strobe, unnamed, fresh}
+use Rattle.replay.specs.Each.{Each}
 use Rattle.replay.specs.History.{Act, Entry, ends, log, struck, Joined, naming, operations}
-use Rattle.replay.specs.Mirror.{Mirrors, Agrees, Each, opposite}
+use Rattle.replay.specs.Mirror.{Mirrors, Agrees, opposite}
 use Rattle.replay.specs.Reload.{Sound, Keeps}
 use Rattle.replay.specs.Replay.{NoneRejected, Replayed}
 use Rattle.replay.specs.Whole.{whole, Course}

@@ -5,7 +5,7 @@ use mathlib.Core.Bool.{Bool, true, false, cond}
 use Rattle.strobe.proofs.Refused.{refused-unchanged}
 use Rattle.strobe.specs.Answer.{refuses}
 use Rattle.strobe.specs.Duplex.{Sponge}
-use Rattle.strobe.specs.Runs.{Call, effect}
+use Rattle.strobe.specs.Runs.{effect}
 use Rattle.strobe.specs.Strobe.{Strobe}
 use Rattle.replay.specs.History.{Act, ask, reload, Entry, entry, ends, log, struck}
 use Rattle.replay.specs.Strike.{strike}

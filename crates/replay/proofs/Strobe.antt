@@ -1,27 +1,28 @@
 -- Replay of STROBE itself: Keccak-f[1600] as FIPS 202 defines it, either level, saved and loaded anywhere. Assumes nothing.
 use Prim.Native.Nat.{ℕ, _<_}
-use mathlib.Core.Path.{_≡_, refl, sym, ap, _∙_}
+use mathlib.Core.Path.{_≡_, refl, ap}
 use mathlib.Core.List.{List}
-use mathlib.Core.Bool.{true, false}
-use lib.ListN.{length}
 use native.Mathlib.Omega.{arith}
 use Rattle.fips202.proofs.Permutation.{keccakF1600-length}
 use Rattle.laws.proofs.Bools.{true-not-false}
 use Rattle.saved.proofs.RoundTrip.{load-of-save}
 use Rattle.saved.specs.AfterLoad.{withoutLast}
-use Rattle.saved.specs.Saved.{form, loaded}
+use Rattle.strobe.specs.Every.{Every}
 use Rattle.strobe.specs.Session.{rateOf, spongeOf, seen, held, Given}
-use Rattle.strobe.specs.Strobe.{Strobe, isLast, unnamed, fresh}
-use Rattle.strobe.specs.declared.flags.Flags.{Flags}
+use Rattle.strobe.specs.Strobe.{Strobe, unnamed, fresh}
 use Rattle.strobe.specs.declared.level.Level.{Level}
 use Rattle.strobe.specs.declared.level.Level.the-variants.{B128, B256}
+use Rattle.replay.specs.Cuts.{Alike, Same, MacFits}
+use Rattle.replay.specs.Each.{Each}
 use Rattle.replay.specs.Editions.{Edition, edition1, reloaded}
 use Rattle.replay.specs.History.{Act, Entry, ends, log, operations}
-use Rattle.replay.specs.Mirror.{Mirrors, Each}
-use Rattle.replay.specs.Reload.{Sound, Usable, Kept, Keeps}
-use Rattle.replay.specs.Replay.{NoneRejected, Replayed}
+use Rattle.replay.specs.Mirror.{Mirrors}
+use Rattle.replay.specs.Reload.{Sound, Usable, Keeps}
+use Rattle.replay.specs.Replay.{NoneRejected, NoneRefused, Replayed}
 use Rattle.replay.specs.Whole.{Course}
 use Rattle.replay.proofs.Course.{course}
+use Rattle.replay.proofs.Cutting.{cut-anywhere}
+use Rattle.replay.proofs.Possible.{replay-exists}
 use Rattle.replay.proofs.Replay.{replay}
 
 rate-positive : (l : Level) → 0 < rateOf l
@@ -52,3 +53,14 @@ module _ (l : Level) (name : List ℕ) where
   pub strobe-replay : (a b : List (Act Edition)) → NoneRejected (logOf a) → Each Mirrors (operations name (logOf a)) (operations name (logOf b))
       → Replayed name (logOf a) (logOf b) (endOf a) (endOf b)
   strobe-replay = replay (spongeOf l) (sound l) (reloaded l) (reload-keeps l) name
+
+  -- ---- what stands beside it
+
+  pub strobe-cut-anywhere : (a b : List (Act Edition)) → Each Alike (operations name (logOf a)) (operations name (logOf b))
+      → Same (operations name (logOf a)) (operations name (logOf b)) (endOf a) (endOf b)
+  strobe-cut-anywhere = cut-anywhere (spongeOf l) (sound l) (reloaded l) (reload-keeps l) name
+
+  pub strobe-replay-exists : (a : List (Act Edition)) → NoneRejected (logOf a) → Every MacFits (operations name (logOf a))
+      → (b : List (Act Edition)) × (NoneRefused (logOf b) × Each Mirrors (operations name (logOf a)) (operations name (logOf b))
+      × Replayed name (logOf a) (logOf b) (endOf a) (endOf b))
+  strobe-replay-exists = replay-exists (spongeOf l) (sound l) (reloaded l) (reload-keeps l) name

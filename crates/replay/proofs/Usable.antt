@@ -1,6 +1,6 @@
 -- Every call leaves a usable session usable: well formed, and its state of the sponge's size. So is a fresh session. Assumes nothing.
 use Prim.Native.Nat.{ℕ, zero, suc, _+_, _-_}
-use mathlib.Core.Path.{_≡_, refl, ap, _∙_}
+use mathlib.Core.Path.{_≡_, ap, _∙_}
 use mathlib.Core.List.{List, [], _∷_}
 use mathlib.Core.Bool.{Bool, true, false, not, cond, _&&_}
 use lib.Dec.{eqb}
@@ -13,7 +13,6 @@ use Rattle.strobe.specs.Duplex.{Sponge, Duplex, Rule, mix, placed, padded, clos
 use Rattle.strobe.specs.Flags.{C, META-AD, has, operation, absorbing, ruleOf}
 use Rattle.strobe.specs.Runs.{Call, effect}
 use Rattle.strobe.specs.Strobe.{Strobe, mixed, directed, forced, beginOp, opened, wellFormed, refusal, worked, settled, call, seed, unnamed, fresh}
-use Rattle.strobe.specs.declared.direction.Direction.{Direction}
 use Rattle.strobe.specs.declared.flags.Flags.{Flags}
 use Rattle.replay.specs.Reload.{Sound, Usable, Kept}
 

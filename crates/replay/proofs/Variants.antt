@@ -1,11 +1,10 @@
 -- What replay hangs on: STROBE's own rules keep it, and each of five mistakes breaks it, at operations that are computed here. Assumes nothing.
 use Prim.Native.Nat.{ℕ}
-use mathlib.Core.Path.{_≡_, refl, sym, ap, _∙_}
+use mathlib.Core.Path.{_≡_, refl, ap}
 use mathlib.Core.List.{List, [], _∷_}
-use mathlib.Core.Bool.{Bool, true, false}
+use mathlib.Core.Bool.{true, false}
 use lib.ListN.{getD}
 use native.Mathlib.Omega.{arith}
-use Rattle.strobe.specs.Answer.{done}
 use Rattle.strobe.specs.Duplex.{Sponge, Duplex, mix, padded, closeIfFull, step, after, out}
 use Rattle.strobe.specs.Every.{Every}
 use Rattle.strobe.specs.Flags.{AD, PRF, SEND-CLR, RECV-CLR, SEND-MAC, RECV-MAC, SEND-ENC, RECV-ENC, operationOf, operation, known}
@@ -13,10 +12,11 @@ use Rattle.strobe.specs.Strobe.{Strobe, Effect, mixed, forced, beginOp, opened,
 use Rattle.strobe.specs.declared.direction.Direction.the-variants.{Neither}
 use Rattle.strobe.specs.declared.flags.Flags.{Flags}
 use Rattle.strobe.specs.declared.last.Last.the-variants.{Nothing}
+use Rattle.replay.specs.Each.{Each}
 use Rattle.replay.specs.History.{Joined}
-use Rattle.replay.specs.Mirror.{mirrored, Mirrors, Agrees, Each}
+use Rattle.replay.specs.Mirror.{mirrored, Mirrors}
 use Rattle.replay.specs.Variants.{Rules, strobeRules, Request, wholeBy, made, left, Replays, plaintextKept, prfXored, macAbsorbed, mixedAsCalled, directedByAll, prfFrozen, cipherCopies}
-use Rattle.replay.specs.Whole.{whole, Right, Course}
+use Rattle.replay.specs.Whole.{Right, Course}
 use Rattle.replay.proofs.Mirror.{Faces}
 use Rattle.replay.proofs.Replay.{facing}
 use Rattle.replay.proofs.Turned.{turned-known}
@@ -82,7 +82,7 @@ directed-by-all-breaks h =
     let e : _≡_ {A = ℕ} 12 13 = ap (λ (d : Duplex). getD (d .st) 3 0) (r .1) in
     omega arith
 
--- ---- a frozen prf and a copying cipher keep to replay alone; their bytes are not the definition's
+-- ---- the bytes of a frozen prf and of a copying cipher are not the definition's
 
 abbrev RightBy : Rules → Type 0
 RightBy v = (sp : Sponge) (s : Strobe) (q : Request) → Right sp s (joinedBy q (wholeBy v sp s q))

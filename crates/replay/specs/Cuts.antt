@@ -1,4 +1,4 @@
--- How the second end may cut the mirror of an operation.
+-- Cutting: when two runs of one end differ only in where they cut, and how the second end may cut the mirror of an operation.
 use mathlib.Core.Bool.{Bool, true, false}
 use mathlib.Core.List.{List, [], _∷_, _++_, map, flatten}
 use mathlib.Core.Path.{_≡_}
@@ -6,11 +6,26 @@ use Prim.Native.Nat.{ℕ, _≤_}
 use lib.ListN.{length}
 use Rattle.strobe.specs.Every.{Every}
 use Rattle.strobe.specs.Flags.{META-AD, operation, isRecvMac, macLimit, overLimit}
-use Rattle.strobe.specs.Runs.{Call}
+use Rattle.strobe.specs.Strobe.{Strobe}
 use Rattle.strobe.specs.declared.flags.Flags.{Flags}
 use Rattle.strobe.specs.declared.flags.Operation.the-variants.{SendMac}
 use Rattle.replay.specs.History.{Act, ask, Joined}
 use Rattle.replay.specs.Mirror.{mirrored, Lends}
+
+-- ---- the same end
+
+-- an operation of the same flags and joined bytes
+pub record Alike (o p : Joined) : Type 0 where
+  pub flags : p .flags ≡ o .flags
+  pub bytes : p .bytes ≡ o .bytes
+
+-- the operations os led to s, the operations ps to t
+pub record Same (os ps : List Joined) (s t : Strobe) : Type 0 where
+  pub operations : ps ≡ os
+  pub duplex : t .duplex ≡ s .duplex
+  pub direction : t .direction ≡ s .direction
+
+-- ---- the second end
 
 -- the bytes of the call that begins an operation, and of those that carry it on
 pub record Cut : Type 0 where
@@ -26,8 +41,7 @@ pub record Cuts (a : Joined) (k : Cut) : Type 0 where
   pub within : Every (λ (bs : List ℕ). overLimit (operation (mirrored (a .flags))) (length bs) ≡ false) (k .first ∷ k .others)
   pub uncut : isRecvMac (operation (mirrored (a .flags))) ≡ true → k .others ≡ []
 
--- ---- the calls
-
+-- the calls
 abbrev pub calling : {Edition : Type 0} → Flags → Bool → List ℕ → Act Edition
 calling f more bs = ask (record { flags = f; more = more; bytes = bs })
 

@@ -1,5 +1,5 @@
 -- A history: the calls that one end made with what came of them, the refused ones struck out, and the pieces joined into operations.
-use mathlib.Core.Bool.{Bool, cond}
+use mathlib.Core.Bool.{cond}
 use mathlib.Core.List.{List, [], _∷_, _++_}
 use Prim.Native.Nat.{ℕ}
 use lib.Dec.{eqb}

@@ -1,10 +1,11 @@
 pub mod History
 pub mod Whole
+pub mod Each
 pub mod Mirror
 pub mod Reload
+pub mod Replay
 pub mod Editions
 pub mod Played
 pub mod Strike
 pub mod Cuts
 pub mod Variants
-pub mod Replay

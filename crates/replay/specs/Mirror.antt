@@ -1,6 +1,6 @@
 -- The mirror of an operation: what the second end lends, and what it gets.
 use mathlib.Core.Bool.{cond}
-use mathlib.Core.List.{List, [], _∷_}
+use mathlib.Core.List.{List}
 use mathlib.Core.Path.{_≡_}
 use Prim.Native.Nat.{ℕ}
 use lib.Bits.{bitXor}
@@ -54,13 +54,6 @@ pub record Agrees (a b : Joined) : Type 0 where
   -- 0: it accepts every MAC
   pub answer : b .answer ≡ done
   pub gets : Gets (operation (a .flags)) a b
-
--- P holds at each place of two lists of one length
-abbrev pub Each : {A B : Type 0} → (A → B → Type 0) → List A → List B → Type 0
-Each P [] [] = Unit {0}
-Each P [] (y ∷ ys) = ⊥
-Each P (x ∷ xs) [] = ⊥
-Each P (x ∷ xs) (y ∷ ys) = P x y × Each P xs ys
 
 -- where one end is the sender the other is the receiver
 abbrev pub opposite : Direction → Direction

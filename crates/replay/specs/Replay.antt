@@ -7,8 +7,9 @@ use Prim.Native.Nat.{ℕ}
 use Rattle.strobe.specs.Answer.{done, macUnequal, refuses}
 use Rattle.strobe.specs.Every.{Every}
 use Rattle.strobe.specs.Strobe.{Strobe}
-use Rattle.replay.specs.History.{Entry, struck, Joined, operations}
-use Rattle.replay.specs.Mirror.{Agrees, Each, opposite}
+use Rattle.replay.specs.Each.{Each}
+use Rattle.replay.specs.History.{Entry, struck, operations}
+use Rattle.replay.specs.Mirror.{Agrees, opposite}
 
 -- no call rejected a MAC
 abbrev pub NoneRejected : List Entry → Type 0
@@ -29,14 +30,3 @@ pub record Replayed (name : List ℕ) (es fs : List Entry) (s t : Strobe) : Type
   pub pos : t .duplex .pos ≡ s .duplex .pos
   pub begin : t .duplex .begin ≡ s .duplex .begin
   pub direction : t .direction ≡ opposite (s .direction)
-
--- ---- another way to cut, at the same end
-
-pub record Alike (o p : Joined) : Type 0 where
-  pub flags : p .flags ≡ o .flags
-  pub bytes : p .bytes ≡ o .bytes
-
-pub record Same (os ps : List Joined) (s t : Strobe) : Type 0 where
-  pub operations : ps ≡ os
-  pub duplex : t .duplex ≡ s .duplex
-  pub direction : t .direction ≡ s .direction

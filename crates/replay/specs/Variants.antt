@@ -17,13 +17,9 @@ use Rattle.strobe.specs.declared.flags.Flags.{Flags}
 use Rattle.strobe.specs.declared.flags.Operation.{Operation}
 use Rattle.strobe.specs.declared.flags.Operation.the-variants.{Ad, Ratchet, Key, Prf, SendClr, RecvClr, SendMac, RecvMac, SendEnc, RecvEnc, Unknown}
 use Rattle.strobe.specs.declared.last.Last.the-variants.{Op}
+use Rattle.replay.specs.Each.{Each}
 use Rattle.replay.specs.History.{Joined}
-use Rattle.replay.specs.Mirror.{Mirrors, Agrees, Each}
-
-abbrev isNeither : Direction → Bool
-isNeither Neither = true
-isNeither Sender = false
-isNeither Receiver = false
+use Rattle.replay.specs.Mirror.{Mirrors, Agrees}
 
 pub record Rules : Type 0 where
   pub rule : Operation → Rule
@@ -80,7 +76,7 @@ Replays v =
     → Each Mirrors (made v sp s qs) (made v sp s rs)
     → Each Agrees (made v sp s qs) (made v sp s rs) × (left v sp s rs .duplex ≡ left v sp s qs .duplex)
 
--- ---- mistakes, one at a time
+-- ---- mistakes that break it, one at a time
 
 abbrev place : Operation → ℕ
 place Ad = 0
@@ -115,6 +111,11 @@ macAbsorbed = withRow RecvMac absorbing
 abbrev pub mixedAsCalled : Rules
 mixedAsCalled = record { rule = ruleOf; direct = directed; mixing = λ dir f. f .0 }
 
+abbrev isNeither : Direction → Bool
+isNeither Neither = true
+isNeither Sender = false
+isNeither Receiver = false
+
 -- the first operation sets the direction, ad as well
 abbrev pub directedByAll : Rules
 directedByAll =
@@ -124,7 +125,7 @@ directedByAll =
       mixing = mixed;
     }
 
--- ---- mistakes that replay alone would not find
+-- ---- mistakes in the bytes: replay does not ask where they come from, the definition does
 
 -- a frozen prf
 abbrev pub prfFrozen : Rules
@@ -132,4 +133,9 @@ prfFrozen = withRow Prf (record { state = λ s b. 0; buffer = λ s b. 0 })
 
 -- a cipher that copies its bytes, at both ends
 abbrev pub cipherCopies : Rules
-cipherCopies = record { rule = λ p. cond (eqb (place p) (place SendEnc) || eqb (place p) (place RecvEnc)) untouched (ruleOf p); direct = directed; mixing = mixed }
+cipherCopies =
+    record {
+      rule = λ p. cond (eqb (place p) (place SendEnc) || eqb (place p) (place RecvEnc)) untouched (ruleOf p);
+      direct = directed;
+      mixing = mixed;
+    }
