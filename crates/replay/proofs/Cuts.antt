@@ -132,7 +132,7 @@ module _ {Edition : Type 0} (sp : Sponge) (sound : Sound sp) (reloaded : Edition
       → first .flags ≡ META-AD → first .bytes ≡ name ++ flatten pieces
       → Every (λ (o : Joined). known (operation (o .flags)) ≡ true) os → Each Cuts os ks
       → let es = log sp reloaded (fresh sp name) (answering pieces os ks) in NoneRefused es × Each Mirrors (first ∷ os) (operations name es)
-  unfolding operations operation operationOf mirrored
+  unfolding operations operation operationOf
   any-cut name first pieces os ks f b kn cu =
       let named : Joined = record { flags = META-AD; bytes = first .bytes; lent = first .lent; answer = first .answer } in
       let is-first : named ≡ first = ap (λ (g : Flags). record { flags = g; bytes = first .bytes; lent = first .lent; answer = first .answer }) (sym f) in

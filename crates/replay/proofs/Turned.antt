@@ -83,7 +83,7 @@ abbrev Turns : Flags → Type 0
 Turns f = meaning (mirrored f) ≡ across (meaning f)
 
 turns : (f : Flags) → known (operation f) ≡ true → Turns f
-unfolding mirrored operation operationOf mixed
+unfolding operation operationOf mixed
 turns =
     at-known Turns
     (refl, (refl, (refl, (refl, (refl, (refl, (refl, (refl, tt))))))))

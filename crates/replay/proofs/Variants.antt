@@ -45,7 +45,7 @@ request f bs = record { flags = f; bytes = bs }
 -- ---- the five
 
 pub plaintext-kept-breaks : Replays plaintextKept → ⊥
-unfolding made left mirrored operation operationOf mixed forced after out step closeIfFull padded mix
+unfolding made left operation operationOf mixed forced after out step closeIfFull padded mix
 plaintext-kept-breaks h =
     let r = h small start refl (request SEND-ENC (1 ∷ []) ∷ []) (request RECV-ENC (6 ∷ []) ∷ []) (refl, tt) (refl, tt)
     ((record { flags = refl; lends = refl }), tt) in
@@ -53,28 +53,28 @@ plaintext-kept-breaks h =
     omega arith
 
 pub prf-xored-breaks : Replays prfXored → ⊥
-unfolding made left mirrored operation operationOf mixed forced after out step closeIfFull padded mix
+unfolding made left operation operationOf mixed forced after out step closeIfFull padded mix
 prf-xored-breaks h =
     let r = h small start refl (request PRF (1 ∷ []) ∷ []) (request PRF (0 ∷ []) ∷ []) (refl, tt) (refl, tt) (record { flags = refl; lends = refl }, tt) in
     let e : _≡_ {A = ℕ} 7 6 = ap (λ (bs : List ℕ). getD bs 0 0) (r .0 .0 .gets) in
     omega arith
 
 pub mac-absorbed-breaks : Replays macAbsorbed → ⊥
-unfolding made left mirrored operation operationOf mixed forced after out step closeIfFull padded mix
+unfolding made left operation operationOf mixed forced after out step closeIfFull padded mix
 mac-absorbed-breaks h =
     let r = h small start refl (request SEND-MAC (0 ∷ []) ∷ []) (request RECV-MAC (7 ∷ []) ∷ []) (refl, tt) (refl, tt) (record { flags = refl; lends = refl }, tt) in
     let e : _≡_ {A = ℕ} 0 7 = ap (λ (d : Duplex). getD (d .st) 0 0) (r .1) in
     omega arith
 
 pub mixed-as-called-breaks : Replays mixedAsCalled → ⊥
-unfolding made left mirrored operation operationOf mixed forced after out step closeIfFull padded mix
+unfolding made left operation operationOf mixed forced after out step closeIfFull padded mix
 mixed-as-called-breaks h =
     let r = h small start refl (request SEND-CLR [] ∷ []) (request RECV-CLR [] ∷ []) (refl, tt) (refl, tt) (record { flags = refl; lends = refl }, tt) in
     let e : _≡_ {A = ℕ} 12 13 = ap (λ (d : Duplex). getD (d .st) 1 0) (r .1) in
     omega arith
 
 pub directed-by-all-breaks : Replays directedByAll → ⊥
-unfolding made left mirrored operation operationOf mixed forced after out step closeIfFull padded mix
+unfolding made left operation operationOf mixed forced after out step closeIfFull padded mix
 directed-by-all-breaks h =
     let r =
     h small start refl (request AD [] ∷ request SEND-CLR [] ∷ []) (request AD [] ∷ request RECV-CLR [] ∷ []) (refl, (refl, tt)) (refl, (refl, tt))
@@ -88,13 +88,13 @@ abbrev RightBy : Rules → Type 0
 RightBy v = (sp : Sponge) (s : Strobe) (q : Request) → Right sp s (joinedBy q (wholeBy v sp s q))
 
 pub prf-frozen-wrong : RightBy prfFrozen → ⊥
-unfolding worked opened beginOp made left mirrored operation operationOf mixed forced after out step closeIfFull padded mix
+unfolding worked opened beginOp made left operation operationOf mixed forced after out step closeIfFull padded mix
 prf-frozen-wrong h =
     let e : _≡_ {A = ℕ} 0 7 = ap (λ (bs : List ℕ). getD bs 0 0) (h small start (request PRF (1 ∷ [])) .lent) in
     omega arith
 
 pub cipher-copies-wrong : RightBy cipherCopies → ⊥
-unfolding worked opened beginOp made left mirrored operation operationOf mixed forced after out step closeIfFull padded mix
+unfolding worked opened beginOp made left operation operationOf mixed forced after out step closeIfFull padded mix
 cipher-copies-wrong h =
     let e : _≡_ {A = ℕ} 1 6 = ap (λ (bs : List ℕ). getD bs 0 0) (h small start (request SEND-ENC (1 ∷ [])) .lent) in
     omega arith

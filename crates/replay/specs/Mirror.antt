@@ -15,7 +15,7 @@ use Rattle.strobe.specs.declared.flags.Operation.the-variants.{Ad, Ratchet, Key
 use Rattle.replay.specs.History.{Joined}
 
 -- what one end sends the other receives: with T, bit I is turned
-unfoldable pub mirrored : Flags → Flags
+abbrev pub mirrored : Flags → Flags
 mirrored f = cond (has f T) (flags (bitXor (f .0) (I .0))) f
 
 -- the first end did a; the second lends bs

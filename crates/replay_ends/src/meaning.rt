@@ -1,0 +1,84 @@
+// What the bytes that the plan gives for an operation mean:
+//
+//   0     which of the twenty operations, as the first end does it
+//   1, 2  the size of a piece at the first end, at the second
+//   3, 4  the length
+//   5     who is saved and loaded again before it
+//   6, 7  who tries a call that is refused before it, and which
+use crate::before::Attempt;
+use crate::flags;
+use strobe::Flags;
+
+// The bits that name an end in bytes 5 and 6.
+pub const FIRST: u8 = 1;
+
+pub const SECOND: u8 = 2;
+
+// In the order of docs/RULES.md, section 1, the plain forms before the meta forms.
+pub fn operation(byte: u8) -> Flags {
+    let place = byte % 20;
+    match place {
+        0 => Flags::AD,
+        1 => Flags::RATCHET,
+        2 => Flags::KEY,
+        3 => Flags::PRF,
+        4 => Flags::SEND_CLR,
+        5 => Flags::RECV_CLR,
+        6 => Flags::SEND_MAC,
+        7 => Flags::RECV_MAC,
+        8 => Flags::SEND_ENC,
+        9 => Flags::RECV_ENC,
+        10 => Flags::META_AD,
+        11 => Flags::META_RATCHET,
+        12 => Flags::META_KEY,
+        13 => Flags::META_PRF,
+        14 => Flags::META_SEND_CLR,
+        15 => Flags::META_RECV_CLR,
+        16 => Flags::META_SEND_MAC,
+        17 => Flags::META_RECV_MAC,
+        18 => Flags::META_SEND_ENC,
+        _ => Flags::META_RECV_ENC,
+    }
+}
+
+// Of the pieces one in four is longer than a block, the rest are below 32 bytes, where 0 is no cut. A received MAC can't be cut.
+pub fn size(flags: Flags, byte: u8) -> usize {
+    if flags::are_of(flags, Flags::RECV_MAC) {
+        return 0;
+    }
+    if byte < 192 {
+        return (byte % 32) as usize;
+    }
+    byte as usize
+}
+
+// A MAC has at most 64 bytes. Of the other lengths one in four is below 400, which can be more than two blocks, the rest are below 48.
+pub fn length(flags: Flags, high: u8, low: u8) -> usize {
+    if flags::are_of(flags, Flags::SEND_MAC) || flags::are_of(flags, Flags::RECV_MAC) {
+        return (low % 65) as usize;
+    }
+    if high % 4 == 0 {
+        return ((high / 4) as usize * 256 + low as usize) % 400;
+    }
+    (low % 48) as usize
+}
+
+// Of eight, 1 is the first end, 2 the second and 3 both.
+pub fn is_saved(byte: u8, end: u8) -> bool {
+    byte % 8 < 4 && byte & end != 0
+}
+
+// Of eight, 1 is the first end and 2 the second.
+pub fn attempt(who: u8, which: u8, end: u8) -> Attempt {
+    if who % 8 != end {
+        return Attempt::Nothing;
+    }
+    let place = which % 5;
+    match place {
+        0 => Attempt::KeyFlag,
+        1 => Attempt::NoOperation,
+        2 => Attempt::NotTheLast,
+        3 => Attempt::CutMac,
+        _ => Attempt::LongMac,
+    }
+}
