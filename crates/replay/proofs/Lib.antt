@@ -1,7 +1,8 @@
 pub mod Xor
-pub mod Rules
+pub mod Undoing
 pub mod Turned
 pub mod Mirror
+pub mod Replays
 pub mod Usable
 pub mod Course
 pub mod Answers
@@ -12,4 +13,4 @@ pub mod Strike
 pub mod Cuts
 pub mod Possible
 pub mod Cutting
-pub mod Variants
+pub mod Mistakes

@@ -13,8 +13,8 @@ use Rattle.strobe.specs.Answer.{number, done, shortBuffer}
 use Rattle.strobe.specs.Runs.{effect}
 use Rattle.strobe.specs.Session.{rateOf, spongeOf, seen, held, Given, Is}
 use Rattle.strobe.specs.Strobe.{Strobe, Effect, wellFormed, unnamed, fresh}
-use Rattle.strobe.specs.declared.answer.Answer.{Answer}
 use Rattle.strobe.specs.declared.answer.Answer.the-variants.{Done}
+use Rattle.strobe.specs.declared.answer.Answer.{Answer}
 use Rattle.strobe.specs.declared.level.Level.{Level}
 use Rattle.strobe.specs.declared.session.Outcome.{Outcome}
 use Rattle.strobe.specs.declared.session.Session.{Session}

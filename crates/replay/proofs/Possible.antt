@@ -12,8 +12,8 @@ use Rattle.strobe.specs.Duplex.{Sponge}
 use Rattle.strobe.specs.Every.{Every}
 use Rattle.strobe.specs.Flags.{META-AD, operation, known, isRecvMac, macLimit, overLimit, ruleOf}
 use Rattle.strobe.specs.Strobe.{Strobe, opened, worked, unnamed, fresh}
-use Rattle.strobe.specs.declared.flags.Operation.{Operation}
 use Rattle.strobe.specs.declared.flags.Operation.the-variants.{Ad, Ratchet, Key, Prf, SendClr, RecvClr, SendMac, RecvMac, SendEnc, RecvEnc, Unknown}
+use Rattle.strobe.specs.declared.flags.Operation.{Operation}
 use Rattle.replay.specs.Cuts.{Cut, bytesOf, Cuts, answering, MacFits}
 use Rattle.replay.specs.Each.{Each}
 use Rattle.replay.specs.History.{Act, Entry, ends, log, struck, Joined, begun, carriedOn, joined, naming, operations}

@@ -1,56 +1,84 @@
 -- Replay, over any sponge and any reload that keeps state, positions and direction. Assumes nothing.
 use Prim.Native.Nat.{ℕ}
-use mathlib.Core.Path.{refl, sym, ap, _∙_}
-use mathlib.Core.List.{List, [], _∷_}
+use mathlib.Core.Path.{_≡_, refl, sym, ap, ap₂, _∙_, subst, subst₂}
+use mathlib.Core.List.{List, [], _∷_, map}
+use mathlib.Core.Bool.{true}
 use Rattle.strobe.specs.Duplex.{Sponge, Duplex}
-use Rattle.strobe.specs.Strobe.{Strobe, unnamed, fresh}
+use Rattle.strobe.specs.Every.{Every}
+use Rattle.strobe.specs.Flags.{operation, known, ruleOf}
+use Rattle.strobe.specs.Strobe.{Strobe, beginOp, opened, verdict, worked, unnamed, fresh}
 use Rattle.replay.specs.Each.{Each}
 use Rattle.replay.specs.History.{Act, Entry, ends, log, struck, Joined, naming, operations}
 use Rattle.replay.specs.Mirror.{Mirrors, Agrees, opposite}
 use Rattle.replay.specs.Reload.{Sound, Keeps}
 use Rattle.replay.specs.Replay.{NoneRejected, Replayed}
-use Rattle.replay.specs.Whole.{whole, Course}
+use Rattle.replay.specs.Rules.{strobeRules, Request, joinedBy, wholeBy, made, left}
+use Rattle.replay.specs.Whole.{whole, Right, Course}
 use Rattle.replay.proofs.Answers.{OperationsDone, struck-done, joined-done, joined-back, agreed-done}
 use Rattle.replay.proofs.Course.{course}
-use Rattle.replay.proofs.Mirror.{Faces, Faced, faced}
+use Rattle.replay.proofs.Mirror.{Faces}
+use Rattle.replay.proofs.Replays.{facing, strobe-rows}
 
--- ---- operations and their mirrors, one after another
+-- ---- a course is operations taken whole
 
-pub record Facing (os ps : List Joined) (s t : Strobe) : Type 0 where
-  pub agrees : Each Agrees os ps
-  pub faces : Faces s t
+abbrev asked : Joined → Request
+asked o = record { flags = o .flags; bytes = o .bytes }
 
 module _ (sp : Sponge) where
-  pub facing : (os ps : List Joined) (s t s′ t′ : Strobe) → Faces s t → Course sp s os s′ → OperationsDone os → Course sp t ps t′ → Each Mirrors os ps
-      → Facing os ps s′ t′
-  facing [] [] s t s′ t′ f co z cp m =
-      record {
-        agrees = tt;
-        faces = record { duplex = cp .0 ∙ f .duplex ∙ sym (co .0); direction = cp .1 ∙ f .direction ∙ ap opposite (sym (co .1)) };
-      }
-  facing [] (p ∷ ps) s t s′ t′ f co z cp m = absurd m
-  facing (o ∷ os) [] s t s′ t′ f co z cp m = absurd m
-  facing (o ∷ os) (p ∷ ps) s t s′ t′ f co z cp m =
-      let w : Faced sp s t o p = faced sp s t o p f (co .0) (z .0) (cp .0) (m .0) in
-      let r : Facing os ps s′ t′ = facing os ps (whole sp s o .strobe) (whole sp t p .strobe) s′ t′ (w .faces) (co .1) (z .1) (cp .1) (m .1) in
-      record { agrees = (w .agrees, r .agrees); faces = r .faces }
+  record Made (s : Strobe) (os : List Joined) (t : Strobe) : Type 0 where
+    known : Every (λ (q : Request). known (operation (q .flags)) ≡ true) (map asked os)
+    operations : os ≡ made strobeRules sp s (map asked os)
+    duplex : t .duplex ≡ left strobeRules sp s (map asked os) .duplex
+    direction : t .direction ≡ left strobeRules sp s (map asked os) .direction
 
-  -- two courses from the unnamed session
+  right-made : (s : Strobe) (o : Joined) → Right sp s o → o ≡ joinedBy (asked o) (wholeBy strobeRules sp s (asked o))
+  unfolding opened beginOp worked verdict
+  right-made s o r = ap₂ (λ (bs : List ℕ) (n : ℕ). record { flags = o .flags; bytes = o .bytes; lent = bs; answer = n }) (r .lent) (r .answer)
+
+  course-made : (os : List Joined) (s t : Strobe) → Course sp s os t → Made s os t
+  unfolding made left opened beginOp worked verdict
+  course-made [] s t c = record { known = tt; operations = refl; duplex = c .0; direction = c .1 }
+  course-made (o ∷ os) s t c =
+      let rest = course-made os (whole sp s o .strobe) t (c .1) in
+      record {
+        known = (c .0 .one-of-twenty, rest .known);
+        operations = ap₂ (λ (x : Joined) (xs : List Joined). x ∷ xs) (right-made s o (c .0)) (rest .operations);
+        duplex = rest .duplex;
+        direction = rest .direction;
+      }
+
+  -- ---- two courses, from two ends that face each other
+
+  mirrored-courses : (os ps : List Joined) (s t s′ t′ : Strobe) → Faces s t → Course sp s os s′ → Course sp t ps t′ → OperationsDone os → Each Mirrors os ps
+      → Each Agrees os ps × Faces s′ t′
+  mirrored-courses os ps s t s′ t′ f co cp z m =
+      let o = course-made os s s′ co in
+      let p = course-made ps t t′ cp in
+      let w =
+      facing ruleOf strobe-rows sp (map asked os) (map asked ps) s t f (o .known) (subst OperationsDone (o .operations) z)
+      (subst₂ (Each Mirrors) (o .operations) (p .operations) m) in (
+        subst₂ (Each Agrees) (sym (o .operations)) (sym (p .operations)) (w .0),
+        record {
+          duplex = p .duplex ∙ w .1 .duplex ∙ sym (o .duplex);
+          direction = p .direction ∙ w .1 .direction ∙ ap opposite (sym (o .direction));
+        },
+      )
+
   pub replay-courses : (name : List ℕ) (es fs : List Entry) (s t : Strobe)
       → Course sp (unnamed sp) (operations name es) s → Course sp (unnamed sp) (operations name fs) t
       → NoneRejected es → Each Mirrors (operations name es) (operations name fs) → Replayed name es fs s t
   unfolding operations unnamed
   replay-courses name es fs s t ce cf n m =
-      let w : Facing (operations name es) (operations name fs) s t =
-      facing (operations name es) (operations name fs) (unnamed sp) (unnamed sp) s t (record { duplex = refl; direction = refl }) ce
-      (joined-done (struck es) (naming name) refl (struck-done es n)) cf m in
+      let w =
+      mirrored-courses (operations name es) (operations name fs) (unnamed sp) (unnamed sp) s t (record { duplex = refl; direction = refl }) ce cf
+      (joined-done (struck es) (naming name) refl (struck-done es n)) m in
       record {
-        accepts = joined-back (struck fs) (naming name) (agreed-done (operations name es) (operations name fs) (w .agrees)) .1;
-        agrees = w .agrees;
-        state = ap (λ (d : Duplex). d .st) (w .faces .duplex);
-        pos = ap (λ (d : Duplex). d .pos) (w .faces .duplex);
-        begin = ap (λ (d : Duplex). d .begin) (w .faces .duplex);
-        direction = w .faces .direction;
+        accepts = joined-back (struck fs) (naming name) (agreed-done (operations name es) (operations name fs) (w .0)) .1;
+        agrees = w .0;
+        state = ap (λ (d : Duplex). d .st) (w .1 .duplex);
+        pos = ap (λ (d : Duplex). d .pos) (w .1 .duplex);
+        begin = ap (λ (d : Duplex). d .begin) (w .1 .duplex);
+        direction = w .1 .direction;
       }
 
 -- ---- replay

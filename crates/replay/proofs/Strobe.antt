@@ -10,8 +10,8 @@ use Rattle.saved.specs.AfterLoad.{withoutLast}
 use Rattle.strobe.specs.Every.{Every}
 use Rattle.strobe.specs.Session.{rateOf, spongeOf, seen, held, Given}
 use Rattle.strobe.specs.Strobe.{Strobe, unnamed, fresh}
-use Rattle.strobe.specs.declared.level.Level.{Level}
 use Rattle.strobe.specs.declared.level.Level.the-variants.{B128, B256}
+use Rattle.strobe.specs.declared.level.Level.{Level}
 use Rattle.replay.specs.Cuts.{Alike, Same, MacFits}
 use Rattle.replay.specs.Each.{Each}
 use Rattle.replay.specs.Editions.{Edition, edition1, reloaded}

@@ -9,11 +9,11 @@ use Rattle.strobe.specs.Every.{Every}
 use Rattle.strobe.specs.Flags.{C, K, has, operationOf, operation, known}
 use Rattle.strobe.specs.Loops.{takers, changers, macs, ratchets}
 use Rattle.strobe.specs.Strobe.{mixed, directed, forced, beginOp}
-use Rattle.strobe.specs.declared.direction.Direction.{Direction}
 use Rattle.strobe.specs.declared.direction.Direction.the-variants.{Neither, Sender, Receiver}
+use Rattle.strobe.specs.declared.direction.Direction.{Direction}
 use Rattle.strobe.specs.declared.flags.Flags.{Flags}
-use Rattle.strobe.specs.declared.flags.Operation.{Operation}
 use Rattle.strobe.specs.declared.flags.Operation.the-variants.{Ad, Ratchet, Key, Prf, SendClr, RecvClr, SendMac, RecvMac, SendEnc, RecvEnc, Unknown}
+use Rattle.strobe.specs.declared.flags.Operation.{Operation}
 use Rattle.replay.specs.Mirror.{mirrored, opposite}
 
 abbrev pub other : Operation → Operation

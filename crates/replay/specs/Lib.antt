@@ -8,4 +8,5 @@ pub mod Editions
 pub mod Played
 pub mod Strike
 pub mod Cuts
-pub mod Variants
+pub mod Rules
+pub mod Mistakes

@@ -7,11 +7,11 @@ use lib.Bits.{bitXor}
 use lib.ListN.{length}
 use Rattle.strobe.specs.Answer.{done}
 use Rattle.strobe.specs.Flags.{flags, I, T, has, operation}
-use Rattle.strobe.specs.declared.direction.Direction.{Direction}
 use Rattle.strobe.specs.declared.direction.Direction.the-variants.{Neither, Sender, Receiver}
+use Rattle.strobe.specs.declared.direction.Direction.{Direction}
 use Rattle.strobe.specs.declared.flags.Flags.{Flags}
-use Rattle.strobe.specs.declared.flags.Operation.{Operation}
 use Rattle.strobe.specs.declared.flags.Operation.the-variants.{Ad, Ratchet, Key, Prf, SendClr, RecvClr, SendMac, RecvMac, SendEnc, RecvEnc, Unknown}
+use Rattle.strobe.specs.declared.flags.Operation.{Operation}
 use Rattle.replay.specs.History.{Joined}
 
 -- what one end sends the other receives: with T, bit I is turned

@@ -7,8 +7,8 @@ use Rattle.saved.specs.Saved.{size, loaded, Saves}
 use Rattle.strobe.specs.Answer.{number}
 use Rattle.strobe.specs.Runs.{Call}
 use Rattle.strobe.specs.Session.{freshAt, Is, Calls}
-use Rattle.strobe.specs.declared.answer.Answer.{Answer}
 use Rattle.strobe.specs.declared.answer.Answer.the-variants.{Done}
+use Rattle.strobe.specs.declared.answer.Answer.{Answer}
 use Rattle.strobe.specs.declared.level.Level.{Level}
 use Rattle.strobe.specs.declared.session.Outcome.{Outcome}
 use Rattle.strobe.specs.declared.session.Session.{Session}
