@@ -22,7 +22,7 @@ use Rattle.replay.specs.Replay.{NoneRejected, NoneRefused, Replayed}
 use Rattle.replay.specs.Whole.{Course}
 use Rattle.replay.proofs.Course.{course}
 use Rattle.replay.proofs.Cutting.{cut-anywhere}
-use Rattle.replay.proofs.Possible.{replay-exists}
+use Rattle.replay.proofs.Possible.{mirror-exists, replay-exists}
 use Rattle.replay.proofs.Replay.{replay}
 
 rate-positive : (l : Level) → 0 < rateOf l
@@ -59,6 +59,10 @@ module _ (l : Level) (name : List ℕ) where
   pub strobe-cut-anywhere : (a b : List (Act Edition)) → Each Alike (operations name (logOf a)) (operations name (logOf b))
       → Same (operations name (logOf a)) (operations name (logOf b)) (endOf a) (endOf b)
   strobe-cut-anywhere = cut-anywhere (spongeOf l) (sound l) (reloaded l) (reload-keeps l) name
+
+  pub strobe-mirror-exists : (a : List (Act Edition)) → Every MacFits (operations name (logOf a))
+      → (b : List (Act Edition)) × (NoneRefused (logOf b) × Each Mirrors (operations name (logOf a)) (operations name (logOf b)))
+  strobe-mirror-exists = mirror-exists (spongeOf l) (sound l) (reloaded l) (reload-keeps l) name
 
   pub strobe-replay-exists : (a : List (Act Edition)) → NoneRejected (logOf a) → Every MacFits (operations name (logOf a))
       → (b : List (Act Edition)) × (NoneRefused (logOf b) × Each Mirrors (operations name (logOf a)) (operations name (logOf b))
