@@ -20,6 +20,7 @@ use Rattle.replay.specs.History.{Act, Entry, entry, log, struck, Joined,
 use Rattle.replay.specs.Mirror.{mirrored, Lends, Mirrors}
 use Rattle.replay.specs.Reload.{Sound, Usable}
 use Rattle.replay.specs.Replay.{NoneRefused}
+use Rattle.replay.specs.Whole.{OneOfTwenty}
 use Rattle.replay.proofs.Course.{worked-stays}
 use Rattle.replay.proofs.Turned.{known-no-key, turned-known}
 use Rattle.replay.proofs.Usable.{call-usable, unnamed-usable}
@@ -86,7 +87,15 @@ module _ {Edition : Type 0} (sp : Sponge) (sound : Sound sp) (reloaded : Edition
         behind s p (r .usable) (record { flags = f; lends = subst (Lends (operation (a .flags)) a) (append-nil (p .bytes)) le })
     carry-on (bs ∷ pieces) s p r f le w u =
         let c : Call = record { flags = mirrored (a .flags); more = true; bytes = bs } in
-        let h = accepted s c (record { usable = r .usable; one-of-twenty = k; not-cut = whole (isRecvMac (operation (mirrored (a .flags)))) refl; same-last = ap not (r .last); within-limit = w .0 }) in
+        let fits : Fits s c =
+        record {
+          usable = r .usable;
+          one-of-twenty = k;
+          not-cut = whole (isRecvMac (operation (mirrored (a .flags)))) refl;
+          same-last = ap not (r .last);
+          within-limit = w .0;
+        } in
+        let h = accepted s c fits in
         let i = carry-on pieces (effect sp s c .strobe) (carriedOn p (entry c (effect sp s c))) (h .1) f
         (subst (Lends (operation (a .flags)) a) (sym (append-assoc (p .bytes) bs (flatten pieces))) le) (w .1) (λ e. absurd (nonempty (u e))) in
         ((h .0, i .0), i .1)
@@ -100,7 +109,7 @@ module _ {Edition : Type 0} (sp : Sponge) (sound : Sound sp) (reloaded : Edition
 
   -- the calls of all the operations, from one under way that mirrors a
   mirrored-all : (os : List Joined) (ks : List Cut) (a : Joined) (s : Strobe) (p : Joined) → Usable sp s → Mirrors a p
-      → Every (λ (o : Joined). known (operation (o .flags)) ≡ true) os → Each Cuts os ks → Mirroring a os p (log sp reloaded s (mirroring os ks))
+      → Every (λ (o : Joined). OneOfTwenty (o .flags)) os → Each Cuts os ks → Mirroring a os p (log sp reloaded s (mirroring os ks))
   unfolding log joined
   mirrored-all [] [] a s p u m kn cu = (tt, (m, tt))
   mirrored-all [] (k ∷ ks) a s p u m kn cu = absurd cu
@@ -130,7 +139,7 @@ module _ {Edition : Type 0} (sp : Sponge) (sound : Sound sp) (reloaded : Edition
   -- the name carried on in any pieces, every operation behind it cut in any way that `Cuts` allows
   pub any-cut : (name : List ℕ) (first : Joined) (pieces : List (List ℕ)) (os : List Joined) (ks : List Cut)
       → first .flags ≡ META-AD → first .bytes ≡ name ++ flatten pieces
-      → Every (λ (o : Joined). known (operation (o .flags)) ≡ true) os → Each Cuts os ks
+      → Every (λ (o : Joined). OneOfTwenty (o .flags)) os → Each Cuts os ks
       → let es = log sp reloaded (fresh sp name) (answering pieces os ks) in NoneRefused es × Each Mirrors (first ∷ os) (operations name es)
   unfolding operations operation operationOf
   any-cut name first pieces os ks f b kn cu =

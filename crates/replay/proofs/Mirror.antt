@@ -82,7 +82,8 @@ module _ (sp : Sponge) (table : Operation → Rule) (rows : Rows table) where
         ∙ sym p
 
     sent-mac : a .lent ≡ out sp copying d (a .bytes) → b .lent ≡ out sp overwriting d (b .bytes) → b .bytes ≡ a .lent
-        → (after sp overwriting d (b .bytes) ≡ after sp copying d (a .bytes)) × (b .lent ≡ b .bytes) × (same (met sp overwriting d (b .bytes)) (b .bytes) ≡ true)
+        → (after sp overwriting d (b .bytes) ≡ after sp copying d (a .bytes)) × (b .lent ≡ b .bytes)
+        × (same (met sp overwriting d (b .bytes)) (b .bytes) ≡ true)
     sent-mac ga gb le =
         let p : b .bytes ≡ out sp copying d (a .bytes) = le ∙ ga in (
           ap (after sp overwriting d) p ∙ after-through sp copying overwriting (λ s c. refl) d (a .bytes),

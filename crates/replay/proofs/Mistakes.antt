@@ -34,28 +34,31 @@ pub plaintext-kept-breaks : Replays plaintextKept → ⊥
 unfolding made left operation operationOf mixed forced after out step closeIfFull padded mix
 plaintext-kept-breaks h =
     let r = h small start refl (request SEND-ENC (1 ∷ []) ∷ []) (request RECV-ENC (6 ∷ []) ∷ []) (refl, tt) (refl, tt)
-    ((record { flags = refl; lends = refl }), tt) in
+    (record { flags = refl; lends = refl }, tt) in
     let e : _≡_ {A = ℕ} 1 6 = ap (λ (d : Duplex). getD (d .st) 0 0) (r .1) in
     omega arith
 
 pub prf-xored-breaks : Replays prfXored → ⊥
 unfolding made left operation operationOf mixed forced after out step closeIfFull padded mix
 prf-xored-breaks h =
-    let r = h small start refl (request PRF (1 ∷ []) ∷ []) (request PRF (0 ∷ []) ∷ []) (refl, tt) (refl, tt) (record { flags = refl; lends = refl }, tt) in
+    let r = h small start refl (request PRF (1 ∷ []) ∷ []) (request PRF (0 ∷ []) ∷ []) (refl, tt) (refl, tt)
+    (record { flags = refl; lends = refl }, tt) in
     let e : _≡_ {A = ℕ} 7 6 = ap (λ (bs : List ℕ). getD bs 0 0) (r .0 .0 .gets) in
     omega arith
 
 pub mac-absorbed-breaks : Replays macAbsorbed → ⊥
 unfolding made left operation operationOf mixed forced after out step closeIfFull padded mix
 mac-absorbed-breaks h =
-    let r = h small start refl (request SEND-MAC (0 ∷ []) ∷ []) (request RECV-MAC (7 ∷ []) ∷ []) (refl, tt) (refl, tt) (record { flags = refl; lends = refl }, tt) in
+    let r = h small start refl (request SEND-MAC (0 ∷ []) ∷ []) (request RECV-MAC (7 ∷ []) ∷ []) (refl, tt) (refl, tt)
+    (record { flags = refl; lends = refl }, tt) in
     let e : _≡_ {A = ℕ} 0 7 = ap (λ (d : Duplex). getD (d .st) 0 0) (r .1) in
     omega arith
 
 pub mixed-as-called-breaks : Replays mixedAsCalled → ⊥
 unfolding made left operation operationOf mixed forced after out step closeIfFull padded mix
 mixed-as-called-breaks h =
-    let r = h small start refl (request SEND-CLR [] ∷ []) (request RECV-CLR [] ∷ []) (refl, tt) (refl, tt) (record { flags = refl; lends = refl }, tt) in
+    let r = h small start refl (request SEND-CLR [] ∷ []) (request RECV-CLR [] ∷ []) (refl, tt) (refl, tt)
+    (record { flags = refl; lends = refl }, tt) in
     let e : _≡_ {A = ℕ} 12 13 = ap (λ (d : Duplex). getD (d .st) 1 0) (r .1) in
     omega arith
 

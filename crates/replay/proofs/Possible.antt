@@ -20,7 +20,7 @@ use Rattle.replay.specs.History.{Act, Entry, ends, log, struck, Joined, 
 use Rattle.replay.specs.Mirror.{mirrored, Lends, Mirrors}
 use Rattle.replay.specs.Reload.{Sound, Keeps}
 use Rattle.replay.specs.Replay.{NoneRejected, NoneRefused, Replayed}
-use Rattle.replay.specs.Whole.{whole, Right, Course}
+use Rattle.replay.specs.Whole.{OneOfTwenty, whole, Right, Course}
 use Rattle.replay.proofs.Course.{course}
 use Rattle.replay.proofs.Cuts.{any-cut}
 use Rattle.replay.proofs.Replay.{replay}
@@ -105,7 +105,8 @@ module _ (sp : Sponge) where
   cuts : (s : Strobe) (a : Joined) → Right sp s a → MacFits a → Cuts a (cutOf (operation (a .flags)) a)
   unfolding worked
   cuts s a r h =
-      let long : length (a .lent) ≡ length (a .bytes) = ap length (r .lent) ∙ out-length sp (ruleOf (operation (a .flags))) (opened sp s (a .flags) false .duplex) (a .bytes) in
+      let long : length (a .lent) ≡ length (a .bytes) =
+      ap length (r .lent) ∙ out-length sp (ruleOf (operation (a .flags))) (opened sp s (a .flags) false .duplex) (a .bytes) in
       let e : operation (mirrored (a .flags)) ≡ other (operation (a .flags)) = turned-operation (a .flags) (r .one-of-twenty) in
       record {
         lends = cut-lends (operation (a .flags)) a (r .one-of-twenty);
@@ -117,7 +118,7 @@ module _ (sp : Sponge) where
   cutting a = cutOf (operation (a .flags)) a
 
   all-cuts : (os : List Joined) (s t : Strobe) → Course sp s os t → Every MacFits os
-      → Every (λ (o : Joined). known (operation (o .flags)) ≡ true) os × Each Cuts os (map cutting os)
+      → Every (λ (o : Joined). OneOfTwenty (o .flags)) os × Each Cuts os (map cutting os)
   all-cuts [] s t c h = (tt, tt)
   all-cuts (o ∷ os) s t c h =
       let rest = all-cuts os (whole sp s o .strobe) t (c .1) (h .1) in
@@ -158,10 +159,10 @@ module _ {Edition : Type 0} (sp : Sponge) (sound : Sound sp) (reloaded : Edition
   from-course name os t n =
       subst (λ (xs : List Joined). Course sp (unnamed sp) xs t → Every MacFits xs → Mirrored name xs) (sym (n .is))
       (λ c h.
-      let k = all-cuts sp (n .rest) (whole sp (unnamed sp) (n .first) .strobe) t (c .1) (h .1) in (
-        answering (n .tail ∷ []) (n .rest) (map (cutting sp) (n .rest)),
-        any-cut sp sound reloaded name (n .first) (n .tail ∷ []) (n .rest) (map (cutting sp) (n .rest)) (n .flags) (n .bytes ∙ ap (λ (x : List ℕ). name ++ x) (one-piece (n .tail))) (k .0) (k .1),
-      ))
+      let ks = map (cutting sp) (n .rest) in
+      let k = all-cuts sp (n .rest) (whole sp (unnamed sp) (n .first) .strobe) t (c .1) (h .1) in
+      let whole-name : n .first .bytes ≡ name ++ flatten (n .tail ∷ []) = n .bytes ∙ ap (λ (x : List ℕ). name ++ x) (one-piece (n .tail)) in
+      (answering (n .tail ∷ []) (n .rest) ks, any-cut sp sound reloaded name (n .first) (n .tail ∷ []) (n .rest) ks (n .flags) whole-name (k .0) (k .1)))
 
   pub mirror-exists : (name : List ℕ) (a : List (Act Edition)) → let os = operations name (log sp reloaded (fresh sp name) a) in
       Every MacFits os → Mirrored name os
@@ -174,7 +175,8 @@ module _ {Edition : Type 0} (sp : Sponge) (sound : Sound sp) (reloaded : Edition
   pub replay-exists : (name : List ℕ) (a : List (Act Edition)) → let es = log sp reloaded (fresh sp name) a in
       NoneRejected es → Every MacFits (operations name es)
       → (b : List (Act Edition)) × let fs = log sp reloaded (fresh sp name) b in
-      NoneRefused fs × Each Mirrors (operations name es) (operations name fs) × Replayed name es fs (ends sp reloaded (fresh sp name) a) (ends sp reloaded (fresh sp name) b)
+      NoneRefused fs × Each Mirrors (operations name es) (operations name fs)
+      × Replayed name es fs (ends sp reloaded (fresh sp name) a) (ends sp reloaded (fresh sp name) b)
   replay-exists name a n h =
       let m = mirror-exists name a h in
       (m .0, (m .1 .0, m .1 .1, replay sp sound reloaded keeps name a (m .0) n (m .1 .1)))

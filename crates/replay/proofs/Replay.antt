@@ -2,10 +2,9 @@
 use Prim.Native.Nat.{ℕ}
 use mathlib.Core.Path.{_≡_, refl, sym, ap, ap₂, _∙_, subst, subst₂}
 use mathlib.Core.List.{List, [], _∷_, map}
-use mathlib.Core.Bool.{true}
 use Rattle.strobe.specs.Duplex.{Sponge, Duplex}
 use Rattle.strobe.specs.Every.{Every}
-use Rattle.strobe.specs.Flags.{operation, known, ruleOf}
+use Rattle.strobe.specs.Flags.{known, ruleOf}
 use Rattle.strobe.specs.Strobe.{Strobe, beginOp, opened, verdict, worked, unnamed, fresh}
 use Rattle.replay.specs.Each.{Each}
 use Rattle.replay.specs.History.{Act, Entry, ends, log, struck, Joined, naming, operations}
@@ -13,7 +12,7 @@ use Rattle.replay.specs.Mirror.{Mirrors, Agrees, opposite}
 use Rattle.replay.specs.Reload.{Sound, Keeps}
 use Rattle.replay.specs.Replay.{NoneRejected, Replayed}
 use Rattle.replay.specs.Rules.{strobeRules, Request, joinedBy, wholeBy, made, left}
-use Rattle.replay.specs.Whole.{whole, Right, Course}
+use Rattle.replay.specs.Whole.{OneOfTwenty, whole, Right, Course}
 use Rattle.replay.proofs.Answers.{OperationsDone, struck-done, joined-done, joined-back, agreed-done}
 use Rattle.replay.proofs.Course.{course}
 use Rattle.replay.proofs.Mirror.{Faces}
@@ -26,7 +25,7 @@ asked o = record { flags = o .flags; bytes = o .bytes }
 
 module _ (sp : Sponge) where
   record Made (s : Strobe) (os : List Joined) (t : Strobe) : Type 0 where
-    known : Every (λ (q : Request). known (operation (q .flags)) ≡ true) (map asked os)
+    known : Every (λ (q : Request). OneOfTwenty (q .flags)) (map asked os)
     operations : os ≡ made strobeRules sp s (map asked os)
     duplex : t .duplex ≡ left strobeRules sp s (map asked os) .duplex
     direction : t .direction ≡ left strobeRules sp s (map asked os) .direction
@@ -49,8 +48,8 @@ module _ (sp : Sponge) where
 
   -- ---- two courses, from two ends that face each other
 
-  mirrored-courses : (os ps : List Joined) (s t s′ t′ : Strobe) → Faces s t → Course sp s os s′ → Course sp t ps t′ → OperationsDone os → Each Mirrors os ps
-      → Each Agrees os ps × Faces s′ t′
+  mirrored-courses : (os ps : List Joined) (s t s′ t′ : Strobe) → Faces s t → Course sp s os s′ → Course sp t ps t′ → OperationsDone os
+      → Each Mirrors os ps → Each Agrees os ps × Faces s′ t′
   mirrored-courses os ps s t s′ t′ f co cp z m =
       let o = course-made os s s′ co in
       let p = course-made ps t t′ cp in

@@ -1,24 +1,25 @@
 -- Replay of operations taken whole, under every table of rules that has what `Rows` asks; STROBE's own has it. Assumes nothing.
 use mathlib.Core.Path.{_≡_, refl}
 use mathlib.Core.List.{List, [], _∷_}
-use mathlib.Core.Bool.{true, false}
+use mathlib.Core.Bool.{false}
 use Rattle.strobe.specs.Answer.{done}
 use Rattle.strobe.specs.Duplex.{Sponge, Rule}
 use Rattle.strobe.specs.Every.{Every}
-use Rattle.strobe.specs.Flags.{operation, known, ruleOf}
+use Rattle.strobe.specs.Flags.{operation, ruleOf}
 use Rattle.strobe.specs.Strobe.{Strobe, beginOp, opened, verdict, worked}
 use Rattle.strobe.specs.declared.flags.Operation.{Operation}
 use Rattle.replay.specs.Each.{Each}
 use Rattle.replay.specs.History.{Joined}
 use Rattle.replay.specs.Mirror.{Mirrors, Agrees}
 use Rattle.replay.specs.Rules.{ruled, strobeRules, Request, wholeBy, made, left, Replays}
+use Rattle.replay.specs.Whole.{OneOfTwenty}
 use Rattle.replay.proofs.Mirror.{Faces, Rows, Faced, faced}
 use Rattle.replay.proofs.Xor.{xor-back}
 
 -- ---- one operation after another
 
 module _ (table : Operation → Rule) (rows : Rows table) (sp : Sponge) where
-  pub facing : (qs rs : List Request) (s t : Strobe) → Faces s t → Every (λ (q : Request). known (operation (q .flags)) ≡ true) qs
+  pub facing : (qs rs : List Request) (s t : Strobe) → Faces s t → Every (λ (q : Request). OneOfTwenty (q .flags)) qs
       → Every (λ (o : Joined). o .answer ≡ done) (made (ruled table) sp s qs) → Each Mirrors (made (ruled table) sp s qs) (made (ruled table) sp t rs)
       → Each Agrees (made (ruled table) sp s qs) (made (ruled table) sp t rs) × Faces (left (ruled table) sp s qs) (left (ruled table) sp t rs)
   unfolding made left

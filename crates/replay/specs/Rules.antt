@@ -1,13 +1,13 @@
 -- STROBE with its rules left open: operations taken whole, as specs/Whole.antt has them, over any table of rules, any way to set the direction and any way to
 -- mix the flags. With STROBE's own three it is STROBE (`strobe-is` of proofs/Replays.antt). It shows what replay hangs on.
-use mathlib.Core.Bool.{true, not, cond, _&&_}
+use mathlib.Core.Bool.{not, cond, _&&_}
 use mathlib.Core.List.{List, [], _∷_}
 use mathlib.Core.Path.{_≡_}
 use Prim.Native.Nat.{ℕ, _+_}
 use Rattle.strobe.specs.Answer.{done, macUnequal}
 use Rattle.strobe.specs.Duplex.{Sponge, Rule, after, out, met, same}
 use Rattle.strobe.specs.Every.{Every}
-use Rattle.strobe.specs.Flags.{operation, known, isRecvMac, absorbing, ruleOf}
+use Rattle.strobe.specs.Flags.{operation, isRecvMac, absorbing, ruleOf}
 use Rattle.strobe.specs.Strobe.{Strobe, Effect, directed, mixed, forced}
 use Rattle.strobe.specs.declared.direction.Direction.the-variants.{Neither}
 use Rattle.strobe.specs.declared.direction.Direction.{Direction}
@@ -17,6 +17,7 @@ use Rattle.strobe.specs.declared.last.Last.the-variants.{Op}
 use Rattle.replay.specs.Each.{Each}
 use Rattle.replay.specs.History.{Joined}
 use Rattle.replay.specs.Mirror.{Mirrors, Agrees}
+use Rattle.replay.specs.Whole.{OneOfTwenty}
 
 pub record Rules : Type 0 where
   pub rule : Operation → Rule
@@ -74,7 +75,7 @@ module _ (v : Rules) (sp : Sponge) where
 abbrev pub Replays : Rules → Type 0
 Replays v =
     (sp : Sponge) (s : Strobe) → s .direction ≡ Neither → (qs rs : List Request)
-    → Every (λ (q : Request). known (operation (q .flags)) ≡ true) qs
+    → Every (λ (q : Request). OneOfTwenty (q .flags)) qs
     → Every (λ (o : Joined). o .answer ≡ done) (made v sp s qs)
     → Each Mirrors (made v sp s qs) (made v sp s rs)
     → Each Agrees (made v sp s qs) (made v sp s rs) × (left v sp s rs .duplex ≡ left v sp s qs .duplex)

@@ -5,7 +5,11 @@ use mathlib.Core.Path.{_≡_}
 use Rattle.strobe.specs.Duplex.{Sponge}
 use Rattle.strobe.specs.Flags.{operation, known}
 use Rattle.strobe.specs.Strobe.{Strobe, Effect, opened, worked}
+use Rattle.strobe.specs.declared.flags.Flags.{Flags}
 use Rattle.replay.specs.History.{Joined}
+
+abbrev pub OneOfTwenty : Flags → Type 0
+OneOfTwenty f = known (operation f) ≡ true
 
 module _ (sp : Sponge) where
   abbrev pub whole : Strobe → Joined → Effect
@@ -13,7 +17,7 @@ module _ (sp : Sponge) where
 
   -- its lent bytes and its answer are the definition's
   pub record Right (s : Strobe) (o : Joined) : Type 0 where
-    pub one-of-twenty : known (operation (o .flags)) ≡ true
+    pub one-of-twenty : OneOfTwenty (o .flags)
     pub lent : o .lent ≡ whole s o .lent
     pub answer : o .answer ≡ whole s o .answer
 
