@@ -6,17 +6,10 @@ use mathlib.Core.Bool.{Bool, true, false, cond, _||_}
 use lib.Dec.{eqb}
 use borrow.Author.Tests.{eqb-true, eqb-false, not-false}
 use Rattle.strobe.specs.Answer.{done, macUnequal, refuses}
-use Rattle.strobe.specs.Every.{Every}
 use Rattle.replay.specs.Each.{Each}
 use Rattle.replay.specs.History.{Entry, struck, Joined, begun, carriedOn, joined}
 use Rattle.replay.specs.Mirror.{Agrees}
-use Rattle.replay.specs.Replay.{NoneRejected}
-
-abbrev pub CallsDone : List Entry → Type 0
-CallsDone es = Every (λ (e : Entry). e .answer ≡ done) es
-
-abbrev pub OperationsDone : List Joined → Type 0
-OperationsDone os = Every (λ (o : Joined). o .answer ≡ done) os
+use Rattle.replay.specs.Replay.{NoneRejected, CallsDone, OperationsDone}
 
 -- ---- what is not struck out and rejects no MAC is done
 

@@ -6,6 +6,7 @@ use mathlib.Core.Bool.{Bool, true, false, not, cond, _&&_}
 use lib.ListN.{length}
 use borrow.Author.Tests.{eqb-true, not-false}
 use Rattle.strobe.proofs.Accepted.{Passed, passed-of, refusal-refuses, call-done}
+use Rattle.strobe.proofs.Calls.{verdict-done}
 use Rattle.strobe.proofs.Data.{after-append, out-append, out-kept}
 use Rattle.strobe.specs.Answer.{refuses}
 use Rattle.strobe.specs.Duplex.{Sponge, Duplex, out, met, same}
@@ -15,7 +16,8 @@ use Rattle.strobe.specs.Strobe.{Strobe, Effect, opened, isLast, refusal, verdic
 use Rattle.strobe.specs.declared.flags.Flags.{Flags}
 use Rattle.strobe.specs.declared.flags.Operation.{Operation}
 use Rattle.replay.specs.History.{Act, ask, reload, Entry, entry, ends, log, struck, Joined, begun, carriedOn, joined, naming, operations}
-use Rattle.replay.specs.Reload.{Sound, Usable, Keeps}
+use Rattle.replay.specs.Reload.{Keeps}
+use Rattle.replay.specs.Usable.{Sound, Usable}
 use Rattle.replay.specs.Whole.{whole, Right, Course}
 use Rattle.replay.proofs.Usable.{call-usable, reload-usable, unnamed-usable, fresh-usable}
 
@@ -31,19 +33,14 @@ module _ (sp : Sponge) where
       go true = refl
       go false = refl
 
-  -- 0 where no MAC is received
-  pub verdict-done : (o : Operation) (d : Duplex) (bs : List ℕ) → isRecvMac o ≡ false → verdict sp o d bs ≡ 0
-  unfolding verdict
-  verdict-done o d bs e = rw e
-
   -- ---- the operation under way from s₀ on, and the session that it has come to
 
-  pub record Under (s₀ : Strobe) (o : Joined) (s : Strobe) : Type 0 where
-    pub right : Right sp s₀ o
-    pub duplex : s .duplex ≡ whole sp s₀ o .strobe .duplex
-    pub direction : s .direction ≡ whole sp s₀ o .strobe .direction
-    pub usable : Usable sp s
-    pub last : (f : Flags) → isLast (s .last) f ≡ true → f ≡ o .flags
+  record Under (s₀ : Strobe) (o : Joined) (s : Strobe) : Type 0 where
+    right : Right sp s₀ o
+    duplex : s .duplex ≡ whole sp s₀ o .strobe .duplex
+    direction : s .direction ≡ whole sp s₀ o .strobe .direction
+    usable : Usable sp s
+    last : (f : Flags) → isLast (s .last) f ≡ true → f ≡ o .flags
 
   -- the bytes of a further piece
   on-with : (s₀ : Strobe) (o : Joined) (s : Strobe) (bs : List ℕ) → Under s₀ o s → isRecvMac (operation (o .flags)) ≡ false
@@ -53,14 +50,14 @@ module _ (sp : Sponge) where
   on-with s₀ o s bs u nm usable more =
       let op = operation (o .flags) in
       let d = opened sp s₀ (o .flags) false .duplex in
-      let zero-so-far : o .answer ≡ 0 = u .right .answer ∙ verdict-done op d (o .bytes) nm in
+      let zero-so-far : o .answer ≡ 0 = u .right .answer ∙ sym (verdict-done sp op d (o .bytes) nm) in
       record {
         right = record {
           one-of-twenty = u .right .one-of-twenty;
           lent =
               ap₂ (λ (xs : List ℕ) (e : Duplex). xs ++ out sp (ruleOf op) e bs) (u .right .lent) (u .duplex)
               ∙ sym (out-append sp (ruleOf op) d (o .bytes) bs);
-          answer = rw zero-so-far (verdict-done op (s .duplex) bs nm ∙ sym (verdict-done op d (o .bytes ++ bs) nm));
+          answer = rw zero-so-far (sym (verdict-done sp op (s .duplex) bs nm) ∙ verdict-done sp op d (o .bytes ++ bs) nm);
         };
         duplex = rw (u .duplex) (sym (after-append sp (ruleOf op) d (o .bytes) bs));
         direction = u .direction;
@@ -83,7 +80,7 @@ module _ (sp : Sponge) where
       (p .not-cut)
 
   -- one with `more` off begins the next
-  pub under-next : (s : Strobe) (f : Flags) (bs : List ℕ) → known (operation f) ≡ true
+  under-next : (s : Strobe) (f : Flags) (bs : List ℕ) → known (operation f) ≡ true
       → let w = worked sp (opened sp s f false) (operation f) bs in
       Usable sp (w .strobe) → Under s (begun (entry (record { flags = f; more = false; bytes = bs }) w)) (w .strobe)
   unfolding worked opened
@@ -102,7 +99,7 @@ module _ (sp : Sponge) where
   unfolding opened
   whole-from s t o d dir = rw (d, dir)
 
-  pub course-from : (s t : Strobe) → t .duplex ≡ s .duplex → t .direction ≡ s .direction → (os : List Joined) (end : Strobe)
+  course-from : (s t : Strobe) → t .duplex ≡ s .duplex → t .direction ≡ s .direction → (os : List Joined) (end : Strobe)
       → Course sp s os end → Course sp t os end
   course-from s t d dir [] end c = (c .0 ∙ sym d, c .1 ∙ sym dir)
   course-from s t d dir (o ∷ os) end c =
@@ -157,7 +154,7 @@ module _ {Edition : Type 0} (sp : Sponge) (sound : Sound sp) (reloaded : Edition
         (done-goes (c .flags) (c .more) (c .bytes) (passed-of (sp .rate) s (c .flags) (c .more) (length (c .bytes)) e) usable)
     asked c (suc n) e = rw (e, refusal-refuses (sp .rate) s (c .flags) (c .more) (length (c .bytes)) n e) (ih s₀ o s u)
 
-  pub goes : (acts : List (Act Edition)) (s₀ : Strobe) (o : Joined) (s : Strobe) → Under sp s₀ o s → Goes acts s₀ o s
+  goes : (acts : List (Act Edition)) (s₀ : Strobe) (o : Joined) (s : Strobe) → Under sp s₀ o s → Goes acts s₀ o s
   unfolding ends log struck joined
   goes [] s₀ o s u = (u .right, (u .duplex, u .direction))
   goes (reload e ∷ acts) s₀ o s u =
@@ -180,7 +177,7 @@ module _ (sp : Sponge) (sound : Sound sp) where
   name-passes name = rw (unnamed-usable sp sound .well)
 
   -- a fresh session stands behind its name
-  pub fresh-under : (name : List ℕ) → Under sp (unnamed sp) (naming name) (fresh sp name)
+  fresh-under : (name : List ℕ) → Under sp (unnamed sp) (naming name) (fresh sp name)
   unfolding fresh operation operationOf worked verdict
   fresh-under name =
       let s = unnamed sp in

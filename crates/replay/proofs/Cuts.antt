@@ -16,14 +16,15 @@ use Rattle.strobe.specs.Strobe.{Strobe, Effect, opened, isLast, refusal, worked
 use Rattle.strobe.specs.declared.flags.Flags.{Flags}
 use Rattle.replay.specs.Cuts.{Cut, Cuts, calling, mirroring, answering}
 use Rattle.replay.specs.Each.{Each}
-use Rattle.replay.specs.History.{Act, Entry, entry, log, struck, Joined, begun, carriedOn, joined, naming, operations}
+use Rattle.replay.specs.History.{Act, ask, reload, Entry, entry, log, struck, Joined, begun, carriedOn, joined, naming, operations}
 use Rattle.replay.specs.Mirror.{mirrored, Lends, Mirrors}
-use Rattle.replay.specs.Reload.{Sound, Usable}
+use Rattle.replay.specs.Reload.{Keeps}
 use Rattle.replay.specs.Replay.{NoneRefused}
+use Rattle.replay.specs.Usable.{Sound, Usable}
 use Rattle.replay.specs.Whole.{OneOfTwenty}
 use Rattle.replay.proofs.Course.{worked-stays}
 use Rattle.replay.proofs.Turned.{known-no-key, turned-known}
-use Rattle.replay.proofs.Usable.{call-usable, unnamed-usable}
+use Rattle.replay.proofs.Usable.{call-usable, reload-usable, unnamed-usable}
 
 -- where none is refused none is struck out
 none-struck : (es : List Entry) → NoneRefused es → struck es ≡ es
@@ -31,7 +32,7 @@ unfolding struck
 none-struck [] h = refl
 none-struck (e ∷ es) h = rw (h .0) (ap (λ (xs : List Entry). e ∷ xs) (none-struck es (h .1)))
 
-module _ {Edition : Type 0} (sp : Sponge) (sound : Sound sp) (reloaded : Edition → Strobe → Strobe) where
+module _ {Edition : Type 0} (sp : Sponge) (sound : Sound sp) (reloaded : Edition → Strobe → Strobe) (keeps : (e : Edition) → Keeps sp (reloaded e)) where
   -- ---- one call
 
   -- the operation f may be carried on
@@ -107,21 +108,32 @@ module _ {Edition : Type 0} (sp : Sponge) (sound : Sound sp) (reloaded : Edition
         whole true e = absurd (nonempty (u e))
         whole false e = refl
 
-  -- the calls of all the operations, from one under way that mirrors a
-  mirrored-all : (os : List Joined) (ks : List Cut) (a : Joined) (s : Strobe) (p : Joined) → Usable sp s → Mirrors a p
+  -- what holds of the acts behind reloads, from every usable session, holds with them
+  reloads-first : (es : List Edition) (acts : List (Act Edition)) (P : List Entry → Type 0) → ((t : Strobe) → Usable sp t → P (log sp reloaded t acts))
+      → (s : Strobe) → Usable sp s → P (log sp reloaded s (map reload es ++ acts))
+  unfolding log
+  reloads-first [] acts P h s u = h s u
+  reloads-first (e ∷ es) acts P h s u = reloads-first es acts P h (reloaded e s) (reload-usable sp s (reloaded e s) u (keeps e s u))
+
+  -- the acts of all the operations, from one under way that mirrors a
+  mirrored-all : (os : List Joined) (ks : List (Cut Edition)) (a : Joined) (s : Strobe) (p : Joined) → Usable sp s → Mirrors a p
       → Every (λ (o : Joined). OneOfTwenty (o .flags)) os → Each Cuts os ks → Mirroring a os p (log sp reloaded s (mirroring os ks))
   unfolding log joined
   mirrored-all [] [] a s p u m kn cu = (tt, (m, tt))
   mirrored-all [] (k ∷ ks) a s p u m kn cu = absurd cu
   mirrored-all (o ∷ os) [] a s p u m kn cu = absurd cu
   mirrored-all (o ∷ os) (k ∷ ks) a s p u m kn cu =
-      let c : Call = record { flags = mirrored (o .flags); more = false; bytes = k .first } in
+      let f : Flags = mirrored (o .flags) in
+      let c : Call = record { flags = f; more = false; bytes = k .first } in
       let known-mirror = turned-known (o .flags) (kn .0) in
-      let h = accepted s c (record { usable = u; one-of-twenty = known-mirror; not-cut = refl; same-last = refl; within-limit = cu .0 .within .0 }) in
+      reloads-first (k .reloads) (ask c ∷ (map (calling f true) (k .others) ++ mirroring os ks)) (Mirroring a (o ∷ os) p)
+      (λ t ut.
+      let h = accepted t c (record { usable = ut; one-of-twenty = known-mirror; not-cut = refl; same-last = refl; within-limit = cu .0 .within .0 }) in
       let i =
-      carry-on o os (mirroring os ks) known-mirror (λ s p u m. mirrored-all os ks o s p u m (kn .1) (cu .1)) (k .others) (effect sp s c .strobe)
-      (begun (entry c (effect sp s c))) (h .1) refl (cu .0 .lends) (cu .0 .within .1) (cu .0 .uncut) in
-      ((h .0, i .0), (m, i .1))
+      carry-on o os (mirroring os ks) known-mirror (λ s p u m. mirrored-all os ks o s p u m (kn .1) (cu .1)) (k .others) (effect sp t c .strobe)
+      (begun (entry c (effect sp t c))) (h .1) refl (cu .0 .lends) (cu .0 .within .1) (cu .0 .uncut) in
+      ((h .0, i .0), (m, i .1)))
+      s u
 
   -- ---- from a fresh session
 
@@ -137,7 +149,7 @@ module _ {Edition : Type 0} (sp : Sponge) (sound : Sound sp) (reloaded : Edition
   names-within (bs ∷ pieces) = (refl, names-within pieces)
 
   -- the name carried on in any pieces, every operation behind it cut in any way that `Cuts` allows
-  pub any-cut : (name : List ℕ) (first : Joined) (pieces : List (List ℕ)) (os : List Joined) (ks : List Cut)
+  pub any-cut : (name : List ℕ) (first : Joined) (pieces : List (List ℕ)) (os : List Joined) (ks : List (Cut Edition))
       → first .flags ≡ META-AD → first .bytes ≡ name ++ flatten pieces
       → Every (λ (o : Joined). OneOfTwenty (o .flags)) os → Each Cuts os ks
       → let es = log sp reloaded (fresh sp name) (answering pieces os ks) in NoneRefused es × Each Mirrors (first ∷ os) (operations name es)

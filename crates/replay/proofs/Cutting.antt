@@ -6,10 +6,11 @@ use mathlib.Core.List.{List, [], _∷_}
 use Rattle.strobe.specs.Duplex.{Sponge}
 use Rattle.strobe.specs.Strobe.{Strobe, Effect, unnamed, fresh}
 use Rattle.strobe.specs.declared.flags.Flags.{Flags}
-use Rattle.replay.specs.Cuts.{Alike, Same}
+use Rattle.replay.specs.Alike.{Alike, Same}
 use Rattle.replay.specs.Each.{Each}
 use Rattle.replay.specs.History.{Act, ends, log, Joined, operations}
-use Rattle.replay.specs.Reload.{Sound, Keeps}
+use Rattle.replay.specs.Reload.{Keeps}
+use Rattle.replay.specs.Usable.{Sound}
 use Rattle.replay.specs.Whole.{whole, Right, Course}
 use Rattle.replay.proofs.Course.{course}
 

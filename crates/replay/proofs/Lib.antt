@@ -2,7 +2,7 @@ pub mod Xor
 pub mod Undoing
 pub mod Turned
 pub mod Mirror
-pub mod Replays
+pub mod Tables
 pub mod Usable
 pub mod Course
 pub mod Answers

@@ -3,19 +3,19 @@
 use Prim.Native.Nat.{ℕ}
 use mathlib.Core.Path.{_≡_, refl, sym, ap, ap₂, _∙_}
 use mathlib.Core.List.{List}
-use mathlib.Core.Bool.{Bool, true, false, not, cond, _&&_}
+use mathlib.Core.Bool.{Bool, true, false, not, cond}
 use lib.ListN.{length}
 use native.Mathlib.Omega.{arith}
 use Rattle.strobe.proofs.Data.{out-kept}
-use Rattle.strobe.specs.Answer.{done, macUnequal}
 use Rattle.strobe.specs.Duplex.{Sponge, Duplex, Rule, after, out, met, same}
-use Rattle.strobe.specs.Flags.{operation, known, isRecvMac, overwriting, copying}
-use Rattle.strobe.specs.Strobe.{Strobe, beginOp}
+use Rattle.strobe.specs.Flags.{operation, overwriting, copying}
+use Rattle.strobe.specs.Strobe.{beginOp}
 use Rattle.strobe.specs.declared.flags.Operation.the-variants.{Ad, Ratchet, Key, Prf, SendClr, RecvClr, SendMac, RecvMac, SendEnc, RecvEnc, Unknown}
 use Rattle.strobe.specs.declared.flags.Operation.{Operation}
 use Rattle.replay.specs.History.{Joined}
 use Rattle.replay.specs.Mirror.{Lends, Gets, Mirrors, Agrees, opposite}
-use Rattle.replay.specs.Rules.{Request, joinedBy, ruled, openedBy, wholeBy}
+use Rattle.replay.specs.Rules.{Request, ruled, End, openedBy, verdictBy, madeBy, nextBy}
+use Rattle.replay.specs.Whole.{OneOfTwenty}
 use Rattle.replay.proofs.Turned.{other, turned-operation, turned-directed, turned-begins}
 use Rattle.replay.proofs.Undoing.{same-refl, same-equal, after-blind, out-blind, after-through, out-through, after-met, out-met}
 
@@ -23,10 +23,10 @@ accepted-same : (t : Bool) → _≡_ {A = ℕ} (cond (not t) 9 0) 0 → t ≡ tr
 accepted-same true e = refl
 accepted-same false e = absurd (omega arith)
 
--- t is the other end of s
-pub record Faces (s t : Strobe) : Type 0 where
-  pub duplex : t .duplex ≡ s .duplex
-  pub direction : t .direction ≡ opposite (s .direction)
+-- f is the other end of e
+pub record Faces (e f : End) : Type 0 where
+  pub duplex : f .duplex ≡ e .duplex
+  pub direction : f .direction ≡ opposite (e .direction)
 
 -- ---- what a table of rules must have
 
@@ -52,13 +52,13 @@ pub record Rows (table : Operation → Rule) : Type 0 where
 module _ (sp : Sponge) (table : Operation → Rule) (rows : Rows table) where
   -- ---- the bytes, row by row
 
-  abbrev verdictBy : Operation → Duplex → List ℕ → ℕ
-  verdictBy o d bs = cond (isRecvMac o && not (same (met sp (table o) d bs) bs)) macUnequal done
+  abbrev judged : Operation → Duplex → List ℕ → ℕ
+  judged = verdictBy (ruled table) sp
 
   record Answered (o : Operation) (d : Duplex) (a b : Joined) : Type 0 where
     duplex : after sp (table (other o)) d (b .bytes) ≡ after sp (table o) d (a .bytes)
     gets : Gets o a b
-    answer : verdictBy (other o) d (b .bytes) ≡ 0
+    answer : judged (other o) d (b .bytes) ≡ 0
 
   module _ (d : Duplex) (a b : Joined) where
     keeps-bytes : (r : Rule) → ((s c : ℕ) → r .buffer s c ≡ c) → b .lent ≡ out sp r d (b .bytes) → b .lent ≡ b .bytes
@@ -99,7 +99,7 @@ module _ (sp : Sponge) (table : Operation → Rule) (rows : Rows table) where
           gb ∙ out-blind sp copying (λ s x y. refl) (λ s x y. refl) d (b .bytes) (a .bytes) le ∙ out-met sp d (a .bytes) own,
         )
 
-    answered : (o : Operation) → a .lent ≡ out sp (table o) d (a .bytes) → verdictBy o d (a .bytes) ≡ 0
+    answered : (o : Operation) → a .lent ≡ out sp (table o) d (a .bytes) → judged o d (a .bytes) ≡ 0
         → b .lent ≡ out sp (table (other o)) d (b .bytes) → Lends o a (b .bytes) → Answered o d a b
     answered Ad ga va gb le = record { duplex = ap (after sp (table Ad) d) le; gets = keeps-bytes (table Ad) (rows .ad) gb; answer = refl }
     answered Key ga va gb le = record { duplex = ap (after sp (table Key) d) le; gets = keeps-bytes (table Key) (rows .key) gb; answer = refl }
@@ -133,31 +133,31 @@ module _ (sp : Sponge) (table : Operation → Rule) (rows : Rows table) where
 
   -- ---- the whole operation
 
-  pub record Faced (s t : Strobe) (q r : Request) : Type 0 where
-    pub agrees : Agrees (joinedBy q (wholeBy (ruled table) sp s q)) (joinedBy r (wholeBy (ruled table) sp t r))
-    pub faces : Faces (wholeBy (ruled table) sp s q .strobe) (wholeBy (ruled table) sp t r .strobe)
+  pub record Faced (e f : End) (q r : Request) : Type 0 where
+    pub agrees : Agrees (madeBy (ruled table) sp e q) (madeBy (ruled table) sp f r)
+    pub faces : Faces (nextBy (ruled table) sp e q) (nextBy (ruled table) sp f r)
 
-  pub faced : (s t : Strobe) (q r : Request) → Faces s t → known (operation (q .flags)) ≡ true
-      → let a = joinedBy q (wholeBy (ruled table) sp s q) in
-      let b = joinedBy r (wholeBy (ruled table) sp t r) in
-      a .answer ≡ 0 → Mirrors a b → Faced s t q r
+  pub faced : (e f : End) (q r : Request) → Faces e f → OneOfTwenty (q .flags)
+      → let a = madeBy (ruled table) sp e q in
+      let b = madeBy (ruled table) sp f r in
+      a .answer ≡ 0 → Mirrors a b → Faced e f q r
   unfolding beginOp
-  faced s t q r fs k z m =
-      let a = joinedBy q (wholeBy (ruled table) sp s q) in
-      let b = joinedBy r (wholeBy (ruled table) sp t r) in
-      let dA = openedBy (ruled table) sp s (q .flags) .duplex in
-      let opens : openedBy (ruled table) sp t (r .flags) .duplex ≡ dA =
-      rw (fs .duplex, fs .direction, m .flags) (turned-begins sp (q .flags) k (s .direction) (s .duplex)) in
+  faced e f q r fs k z m =
+      let a = madeBy (ruled table) sp e q in
+      let b = madeBy (ruled table) sp f r in
+      let d = openedBy (ruled table) sp e (q .flags) .duplex in
+      let opens : openedBy (ruled table) sp f (r .flags) .duplex ≡ d =
+      rw (fs .duplex, fs .direction, m .flags) (turned-begins sp (q .flags) k (e .direction) (e .duplex)) in
       let op : operation (r .flags) ≡ other (operation (q .flags)) = ap operation (m .flags) ∙ turned-operation (q .flags) k in
-      let w : Answered (operation (q .flags)) dA a b =
-      answered dA a b (operation (q .flags)) refl z (ap₂ (λ (o : Operation) (d : Duplex). out sp (table o) d (r .bytes)) op opens) (m .lends) in
+      let w : Answered (operation (q .flags)) d a b =
+      answered d a b (operation (q .flags)) refl z (ap₂ (λ (o : Operation) (x : Duplex). out sp (table o) x (r .bytes)) op opens) (m .lends) in
       record {
         agrees = record {
-          answer = ap₂ (λ (o : Operation) (d : Duplex). verdictBy o d (r .bytes)) op opens ∙ w .answer;
+          answer = ap₂ (λ (o : Operation) (x : Duplex). judged o x (r .bytes)) op opens ∙ w .answer;
           gets = w .gets;
         };
         faces = record {
-          duplex = ap₂ (λ (o : Operation) (d : Duplex). after sp (table o) d (r .bytes)) op opens ∙ w .duplex;
-          direction = rw (fs .direction, m .flags) (turned-directed (q .flags) k (s .direction));
+          duplex = ap₂ (λ (o : Operation) (x : Duplex). after sp (table o) x (r .bytes)) op opens ∙ w .duplex;
+          direction = rw (fs .direction, m .flags) (turned-directed (q .flags) k (e .direction));
         };
       }

@@ -5,77 +5,88 @@ use mathlib.Core.Path.{_≡_, refl, ap}
 use mathlib.Core.List.{List, [], _∷_}
 use lib.ListN.{getD}
 use native.Mathlib.Omega.{arith}
-use Rattle.strobe.specs.Duplex.{Sponge, Duplex, Rule, mix, padded, closeIfFull, step, after, out}
-use Rattle.strobe.specs.Flags.{AD, PRF, SEND-CLR, RECV-CLR, SEND-MAC, RECV-MAC, SEND-ENC, RECV-ENC, operationOf, operation}
-use Rattle.strobe.specs.Strobe.{Strobe, mixed, forced, beginOp, opened, worked}
-use Rattle.strobe.specs.declared.direction.Direction.the-variants.{Neither}
+use Rattle.strobe.specs.Duplex.{Sponge, Duplex, mix, padded, closeIfFull, step, after, out}
+use Rattle.strobe.specs.Flags.{META-AD, ruleOf, PRF, SEND-CLR, RECV-CLR, SEND-MAC, RECV-MAC, SEND-ENC, RECV-ENC, operationOf, operation}
+use Rattle.strobe.specs.Strobe.{unnamed, seed, mixed, forced, beginOp, opened, worked}
 use Rattle.strobe.specs.declared.flags.Flags.{Flags}
-use Rattle.strobe.specs.declared.flags.Operation.{Operation}
-use Rattle.strobe.specs.declared.last.Last.the-variants.{Nothing}
-use Rattle.replay.specs.Mistakes.{plaintextKept, prfXored, macAbsorbed, mixedAsCalled, directedByAll, prfFrozen, cipherCopies}
-use Rattle.replay.specs.Rules.{ruled, Request, joinedBy, wholeBy, made, left, Replays}
-use Rattle.replay.specs.Whole.{Right}
-use Rattle.replay.proofs.Replays.{rows-replay, strobe-rows}
+use Rattle.replay.specs.Mistakes.{plaintextKept, prfXored, macAbsorbed, mixedAsCalled, directedByAll, prfFrozen, cipherCopies, MeetsDefinition}
+use Rattle.replay.specs.Rules.{ruled, Request, made, endAfter, Replays}
+use Rattle.replay.specs.Usable.{Sound}
+use Rattle.replay.proofs.Tables.{rows-replay, strobe-is, strobe-rows}
 
--- ---- a sponge and a session to compute with: six state bytes, a rate of four, and a permutation that changes nothing
+-- ---- a sponge to compute with: eighteen state bytes, a rate of sixteen, and a permutation that changes nothing
 
 abbrev small : Sponge
-small = record { perm = λ st. st; rate = 4; size = 6 }
+small = record { perm = λ st. st; rate = 16; size = 18 }
 
-abbrev start : Strobe
-start = record { duplex = record { st = 7 ∷ 7 ∷ 7 ∷ 7 ∷ 7 ∷ 7 ∷ []; pos = 0; begin = 0 }; direction = Neither; last = Nothing }
+small-sound : Sound small
+small-sound = record { keeps = λ st e. e; rated = omega arith; roomy = omega arith }
 
 abbrev request : Flags → List ℕ → Request
 request f bs = record { flags = f; bytes = bs }
 
+-- of the empty name
+abbrev naming : Request
+naming = request META-AD []
+
 -- ---- the five
 
 pub plaintext-kept-breaks : Replays plaintextKept → ⊥
-unfolding made left operation operationOf mixed forced after out step closeIfFull padded mix
+unfolding made endAfter unnamed seed operation operationOf mixed forced after out step closeIfFull padded mix
 plaintext-kept-breaks h =
-    let r = h small start refl (request SEND-ENC (1 ∷ []) ∷ []) (request RECV-ENC (6 ∷ []) ∷ []) (refl, tt) (refl, tt)
-    (record { flags = refl; lends = refl }, tt) in
-    let e : _≡_ {A = ℕ} 1 6 = ap (λ (d : Duplex). getD (d .st) 0 0) (r .1) in
+    let r =
+    h small small-sound (naming ∷ request SEND-ENC (1 ∷ []) ∷ []) (naming ∷ request RECV-ENC (0 ∷ []) ∷ []) (refl, (refl, tt)) (refl, (refl, tt))
+    (record { flags = refl; lends = refl }, (record { flags = refl; lends = refl }, tt)) in
+    let e : _≡_ {A = ℕ} 1 0 = ap (λ (d : Duplex). getD (d .st) 0 0) (r .1) in
     omega arith
 
 pub prf-xored-breaks : Replays prfXored → ⊥
-unfolding made left operation operationOf mixed forced after out step closeIfFull padded mix
+unfolding made endAfter unnamed seed operation operationOf mixed forced after out step closeIfFull padded mix
 prf-xored-breaks h =
-    let r = h small start refl (request PRF (1 ∷ []) ∷ []) (request PRF (0 ∷ []) ∷ []) (refl, tt) (refl, tt)
-    (record { flags = refl; lends = refl }, tt) in
-    let e : _≡_ {A = ℕ} 7 6 = ap (λ (bs : List ℕ). getD bs 0 0) (r .0 .0 .gets) in
+    let r =
+    h small small-sound (naming ∷ request PRF (1 ∷ []) ∷ []) (naming ∷ request PRF (0 ∷ []) ∷ []) (refl, (refl, tt)) (refl, (refl, tt))
+    (record { flags = refl; lends = refl }, (record { flags = refl; lends = refl }, tt)) in
+    let e : _≡_ {A = ℕ} 1 0 = ap (λ (bs : List ℕ). getD bs 0 0) (r .0 .1 .0 .gets) in
     omega arith
 
 pub mac-absorbed-breaks : Replays macAbsorbed → ⊥
-unfolding made left operation operationOf mixed forced after out step closeIfFull padded mix
+unfolding made endAfter unnamed seed operation operationOf mixed forced after out step closeIfFull padded mix
 mac-absorbed-breaks h =
-    let r = h small start refl (request SEND-MAC (0 ∷ []) ∷ []) (request RECV-MAC (7 ∷ []) ∷ []) (refl, tt) (refl, tt)
-    (record { flags = refl; lends = refl }, tt) in
-    let e : _≡_ {A = ℕ} 0 7 = ap (λ (d : Duplex). getD (d .st) 0 0) (r .1) in
+    let r =
+    h small small-sound (naming ∷ request SEND-MAC (0 ∷ []) ∷ []) (naming ∷ request RECV-MAC (1 ∷ []) ∷ []) (refl, (refl, tt)) (refl, (refl, tt))
+    (record { flags = refl; lends = refl }, (record { flags = refl; lends = refl }, tt)) in
+    let e : _≡_ {A = ℕ} 0 1 = ap (λ (d : Duplex). getD (d .st) 0 0) (r .1) in
     omega arith
 
 pub mixed-as-called-breaks : Replays mixedAsCalled → ⊥
-unfolding made left operation operationOf mixed forced after out step closeIfFull padded mix
+unfolding made endAfter unnamed seed operation operationOf mixed forced after out step closeIfFull padded mix
 mixed-as-called-breaks h =
-    let r = h small start refl (request SEND-CLR [] ∷ []) (request RECV-CLR [] ∷ []) (refl, tt) (refl, tt)
-    (record { flags = refl; lends = refl }, tt) in
-    let e : _≡_ {A = ℕ} 12 13 = ap (λ (d : Duplex). getD (d .st) 1 0) (r .1) in
+    let r =
+    h small small-sound (naming ∷ request SEND-CLR [] ∷ []) (naming ∷ request RECV-CLR [] ∷ []) (refl, (refl, tt)) (refl, (refl, tt))
+    (record { flags = refl; lends = refl }, (record { flags = refl; lends = refl }, tt)) in
+    let e : _≡_ {A = ℕ} 11 10 = ap (λ (d : Duplex). getD (d .st) 3 0) (r .1) in
     omega arith
 
 pub directed-by-all-breaks : Replays directedByAll → ⊥
-unfolding made left operation operationOf mixed forced after out step closeIfFull padded mix
+unfolding made endAfter unnamed seed operation operationOf mixed forced after out step closeIfFull padded mix
 directed-by-all-breaks h =
     let r =
-    h small start refl (request AD [] ∷ request SEND-CLR [] ∷ []) (request AD [] ∷ request RECV-CLR [] ∷ []) (refl, (refl, tt)) (refl, (refl, tt))
+    h small small-sound (naming ∷ request SEND-CLR [] ∷ []) (naming ∷ request RECV-CLR [] ∷ []) (refl, (refl, tt)) (refl, (refl, tt))
     (record { flags = refl; lends = refl }, (record { flags = refl; lends = refl }, tt)) in
-    let e : _≡_ {A = ℕ} 12 13 = ap (λ (d : Duplex). getD (d .st) 3 0) (r .1) in
+    let e : _≡_ {A = ℕ} 11 10 = ap (λ (d : Duplex). getD (d .st) 3 0) (r .1) in
     omega arith
 
 -- ---- the two: they keep to replay, and their bytes are not the definition's
 
--- what is made by a table is what the definition makes
-abbrev pub Defined : (Operation → Rule) → Type 0
-Defined table = (sp : Sponge) (s : Strobe) (q : Request) → Right sp s (joinedBy q (wholeBy (ruled table) sp s q))
+-- STROBE's own table meets it
+pub strobe-meets : MeetsDefinition ruleOf
+strobe-meets sp sound = strobe-is sp
+
+pub prf-frozen-wrong : MeetsDefinition prfFrozen → ⊥
+unfolding worked opened beginOp unnamed seed operation operationOf mixed forced after out step closeIfFull padded mix
+prf-frozen-wrong h =
+    let e : _≡_ {A = ℕ} 0 1 = ap (λ (bs : List ℕ). getD bs 0 0) (h small small-sound (unnamed small) (request PRF (1 ∷ [])) refl .lent) in
+    omega arith
 
 pub prf-frozen-replays : Replays (ruled prfFrozen)
 prf-frozen-replays =
@@ -95,10 +106,10 @@ prf-frozen-replays =
       recv-mac = strobe-rows .recv-mac;
     })
 
-pub prf-frozen-wrong : Defined prfFrozen → ⊥
-unfolding worked opened beginOp operation operationOf mixed forced after out step closeIfFull padded mix
-prf-frozen-wrong h =
-    let e : _≡_ {A = ℕ} 0 7 = ap (λ (bs : List ℕ). getD bs 0 0) (h small start (request PRF (1 ∷ [])) .lent) in
+pub cipher-copies-wrong : MeetsDefinition cipherCopies → ⊥
+unfolding worked opened beginOp unnamed seed operation operationOf mixed forced after out step closeIfFull padded mix
+cipher-copies-wrong h =
+    let e : _≡_ {A = ℕ} 1 0 = ap (λ (bs : List ℕ). getD bs 0 0) (h small small-sound (unnamed small) (request SEND-ENC (1 ∷ [])) refl .lent) in
     omega arith
 
 pub cipher-copies-replays : Replays (ruled cipherCopies)
@@ -118,9 +129,3 @@ cipher-copies-replays =
       send-mac = strobe-rows .send-mac;
       recv-mac = strobe-rows .recv-mac;
     })
-
-pub cipher-copies-wrong : Defined cipherCopies → ⊥
-unfolding worked opened beginOp operation operationOf mixed forced after out step closeIfFull padded mix
-cipher-copies-wrong h =
-    let e : _≡_ {A = ℕ} 1 6 = ap (λ (bs : List ℕ). getD bs 0 0) (h small start (request SEND-ENC (1 ∷ [])) .lent) in
-    omega arith

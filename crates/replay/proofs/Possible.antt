@@ -18,8 +18,9 @@ use Rattle.replay.specs.Cuts.{Cut, bytesOf, Cuts, answering, MacFits}
 use Rattle.replay.specs.Each.{Each}
 use Rattle.replay.specs.History.{Act, Entry, ends, log, struck, Joined, begun, carriedOn, joined, naming, operations}
 use Rattle.replay.specs.Mirror.{mirrored, Lends, Mirrors}
-use Rattle.replay.specs.Reload.{Sound, Keeps}
+use Rattle.replay.specs.Reload.{Keeps}
 use Rattle.replay.specs.Replay.{NoneRejected, NoneRefused, Replayed}
+use Rattle.replay.specs.Usable.{Sound}
 use Rattle.replay.specs.Whole.{OneOfTwenty, whole, Right, Course}
 use Rattle.replay.proofs.Course.{course}
 use Rattle.replay.proofs.Cuts.{any-cut}
@@ -28,101 +29,102 @@ use Rattle.replay.proofs.Turned.{other, turned-operation}
 
 -- ---- a cut that the limits allow: a MAC whole, all else byte by byte
 
-abbrev bytewise : List ℕ → Cut
-bytewise bs = record { first = []; others = map (λ (b : ℕ). b ∷ []) bs }
+abbrev singly : List ℕ → List (List ℕ)
+singly bs = map (λ (b : ℕ). b ∷ []) bs
 
-abbrev uncut : List ℕ → Cut
-uncut bs = record { first = bs; others = [] }
-
--- by what the first end did
-abbrev cutOf : Operation → Joined → Cut
-cutOf Ad a = bytewise (a .bytes)
-cutOf Key a = bytewise (a .bytes)
-cutOf Ratchet a = bytewise (a .bytes)
-cutOf Prf a = bytewise (a .bytes)
-cutOf SendClr a = bytewise (a .lent)
-cutOf SendEnc a = bytewise (a .lent)
-cutOf SendMac a = uncut (a .lent)
-cutOf RecvClr a = bytewise (a .lent)
-cutOf RecvEnc a = bytewise (a .lent)
-cutOf RecvMac a = bytewise (a .bytes)
-cutOf Unknown a = uncut []
-
-bytewise-bytes : (bs : List ℕ) → flatten (map (λ (b : ℕ). b ∷ []) bs) ≡ bs
+singly-bytes : (bs : List ℕ) → flatten (singly bs) ≡ bs
 unfolding flatten
-bytewise-bytes [] = refl
-bytewise-bytes (b ∷ bs) = ap (λ (xs : List ℕ). b ∷ xs) (bytewise-bytes bs)
+singly-bytes [] = refl
+singly-bytes (b ∷ bs) = ap (λ (xs : List ℕ). b ∷ xs) (singly-bytes bs)
 
-cut-lends : (o : Operation) (a : Joined) → known o ≡ true → Lends o a (bytesOf (cutOf o a))
-unfolding flatten
-cut-lends Ad a k = bytewise-bytes (a .bytes)
-cut-lends Key a k = bytewise-bytes (a .bytes)
-cut-lends Ratchet a k = ap length (bytewise-bytes (a .bytes))
-cut-lends Prf a k = ap length (bytewise-bytes (a .bytes))
-cut-lends SendClr a k = bytewise-bytes (a .lent)
-cut-lends SendEnc a k = bytewise-bytes (a .lent)
-cut-lends SendMac a k = append-nil (a .lent)
-cut-lends RecvClr a k = bytewise-bytes (a .lent)
-cut-lends RecvEnc a k = bytewise-bytes (a .lent)
-cut-lends RecvMac a k = ap length (bytewise-bytes (a .bytes))
-cut-lends Unknown a k = true-not-false k refl
+singly-within : (p : Operation) → overLimit p 1 ≡ false → (bs : List ℕ) → Every (λ (x : List ℕ). overLimit p (length x) ≡ false) (singly bs)
+singly-within p one [] = tt
+singly-within p one (b ∷ bs) = (one, singly-within p one bs)
 
--- ---- it is within the limits
+module _ (Edition : Type 0) where
+  abbrev bytewise : List ℕ → Cut Edition
+  bytewise bs = record { reloads = []; first = []; others = singly bs }
 
-bytewise-within : (p : Operation) → overLimit p 0 ≡ false → overLimit p 1 ≡ false → (bs : List ℕ)
-    → Every (λ (x : List ℕ). overLimit p (length x) ≡ false) (map (λ (b : ℕ). b ∷ []) bs)
-bytewise-within p zero one [] = tt
-bytewise-within p zero one (b ∷ bs) = (one, bytewise-within p zero one bs)
+  abbrev uncut : List ℕ → Cut Edition
+  uncut bs = record { reloads = []; first = bs; others = [] }
 
-cut-within : (o : Operation) (a : Joined) → (o ≡ SendMac → length (a .lent) ≤ macLimit)
-    → let k = cutOf o a in Every (λ (x : List ℕ). overLimit (other o) (length x) ≡ false) (k .first ∷ k .others)
-cut-within Ad a h = (refl, bytewise-within Ad refl refl (a .bytes))
-cut-within Key a h = (refl, bytewise-within Key refl refl (a .bytes))
-cut-within Ratchet a h = (refl, bytewise-within Ratchet refl refl (a .bytes))
-cut-within Prf a h = (refl, bytewise-within Prf refl refl (a .bytes))
-cut-within SendClr a h = (refl, bytewise-within RecvClr refl refl (a .lent))
-cut-within SendEnc a h = (refl, bytewise-within RecvEnc refl refl (a .lent))
-cut-within SendMac a h = (le-ltb macLimit (length (a .lent)) (h refl), tt)
-cut-within RecvClr a h = (refl, bytewise-within SendClr refl refl (a .lent))
-cut-within RecvEnc a h = (refl, bytewise-within SendEnc refl refl (a .lent))
-cut-within RecvMac a h = (refl, bytewise-within SendMac refl refl (a .bytes))
-cut-within Unknown a h = (refl, tt)
+  -- by what the first end did
+  abbrev cutOf : Operation → Joined → Cut Edition
+  cutOf Ad a = bytewise (a .bytes)
+  cutOf Key a = bytewise (a .bytes)
+  cutOf Ratchet a = bytewise (a .bytes)
+  cutOf Prf a = bytewise (a .bytes)
+  cutOf SendClr a = bytewise (a .lent)
+  cutOf SendEnc a = bytewise (a .lent)
+  cutOf SendMac a = uncut (a .lent)
+  cutOf RecvClr a = bytewise (a .lent)
+  cutOf RecvEnc a = bytewise (a .lent)
+  cutOf RecvMac a = bytewise (a .bytes)
+  cutOf Unknown a = uncut []
 
-cut-uncut : (o : Operation) (a : Joined) → isRecvMac (other o) ≡ true → cutOf o a .others ≡ []
-cut-uncut Ad a e = absurd (true-not-false e refl)
-cut-uncut Key a e = absurd (true-not-false e refl)
-cut-uncut Ratchet a e = absurd (true-not-false e refl)
-cut-uncut Prf a e = absurd (true-not-false e refl)
-cut-uncut SendClr a e = absurd (true-not-false e refl)
-cut-uncut SendEnc a e = absurd (true-not-false e refl)
-cut-uncut SendMac a e = refl
-cut-uncut RecvClr a e = absurd (true-not-false e refl)
-cut-uncut RecvEnc a e = absurd (true-not-false e refl)
-cut-uncut RecvMac a e = absurd (true-not-false e refl)
-cut-uncut Unknown a e = refl
+  cut-lends : (o : Operation) (a : Joined) → known o ≡ true → Lends o a (bytesOf (cutOf o a))
+  unfolding flatten
+  cut-lends Ad a k = singly-bytes (a .bytes)
+  cut-lends Key a k = singly-bytes (a .bytes)
+  cut-lends Ratchet a k = ap length (singly-bytes (a .bytes))
+  cut-lends Prf a k = ap length (singly-bytes (a .bytes))
+  cut-lends SendClr a k = singly-bytes (a .lent)
+  cut-lends SendEnc a k = singly-bytes (a .lent)
+  cut-lends SendMac a k = append-nil (a .lent)
+  cut-lends RecvClr a k = singly-bytes (a .lent)
+  cut-lends RecvEnc a k = singly-bytes (a .lent)
+  cut-lends RecvMac a k = ap length (singly-bytes (a .bytes))
+  cut-lends Unknown a k = true-not-false k refl
 
-module _ (sp : Sponge) where
-  cuts : (s : Strobe) (a : Joined) → Right sp s a → MacFits a → Cuts a (cutOf (operation (a .flags)) a)
-  unfolding worked
-  cuts s a r h =
-      let long : length (a .lent) ≡ length (a .bytes) =
-      ap length (r .lent) ∙ out-length sp (ruleOf (operation (a .flags))) (opened sp s (a .flags) false .duplex) (a .bytes) in
-      let e : operation (mirrored (a .flags)) ≡ other (operation (a .flags)) = turned-operation (a .flags) (r .one-of-twenty) in
-      record {
-        lends = cut-lends (operation (a .flags)) a (r .one-of-twenty);
-        within = rw e (cut-within (operation (a .flags)) a (λ m. rw long (h m)));
-        uncut = λ m. cut-uncut (operation (a .flags)) a (rw e at m);
-      }
+  cut-within : (o : Operation) (a : Joined) → (o ≡ SendMac → length (a .lent) ≤ macLimit)
+      → let k = cutOf o a in Every (λ (x : List ℕ). overLimit (other o) (length x) ≡ false) (k .first ∷ k .others)
+  cut-within Ad a h = (refl, singly-within Ad refl (a .bytes))
+  cut-within Key a h = (refl, singly-within Key refl (a .bytes))
+  cut-within Ratchet a h = (refl, singly-within Ratchet refl (a .bytes))
+  cut-within Prf a h = (refl, singly-within Prf refl (a .bytes))
+  cut-within SendClr a h = (refl, singly-within RecvClr refl (a .lent))
+  cut-within SendEnc a h = (refl, singly-within RecvEnc refl (a .lent))
+  cut-within SendMac a h = (le-ltb macLimit (length (a .lent)) (h refl), tt)
+  cut-within RecvClr a h = (refl, singly-within SendClr refl (a .lent))
+  cut-within RecvEnc a h = (refl, singly-within SendEnc refl (a .lent))
+  cut-within RecvMac a h = (refl, singly-within SendMac refl (a .bytes))
+  cut-within Unknown a h = (refl, tt)
 
-  abbrev cutting : Joined → Cut
+  cut-whole : (o : Operation) (a : Joined) → isRecvMac (other o) ≡ true → cutOf o a .others ≡ []
+  cut-whole Ad a e = absurd (true-not-false e refl)
+  cut-whole Key a e = absurd (true-not-false e refl)
+  cut-whole Ratchet a e = absurd (true-not-false e refl)
+  cut-whole Prf a e = absurd (true-not-false e refl)
+  cut-whole SendClr a e = absurd (true-not-false e refl)
+  cut-whole SendEnc a e = absurd (true-not-false e refl)
+  cut-whole SendMac a e = refl
+  cut-whole RecvClr a e = absurd (true-not-false e refl)
+  cut-whole RecvEnc a e = absurd (true-not-false e refl)
+  cut-whole RecvMac a e = absurd (true-not-false e refl)
+  cut-whole Unknown a e = refl
+
+  abbrev cutting : Joined → Cut Edition
   cutting a = cutOf (operation (a .flags)) a
 
-  all-cuts : (os : List Joined) (s t : Strobe) → Course sp s os t → Every MacFits os
-      → Every (λ (o : Joined). OneOfTwenty (o .flags)) os × Each Cuts os (map cutting os)
-  all-cuts [] s t c h = (tt, tt)
-  all-cuts (o ∷ os) s t c h =
-      let rest = all-cuts os (whole sp s o .strobe) t (c .1) (h .1) in
-      ((c .0 .one-of-twenty, rest .0), (cuts s o (c .0) (h .0), rest .1))
+  module _ (sp : Sponge) where
+    cuts : (s : Strobe) (a : Joined) → Right sp s a → MacFits a → Cuts a (cutting a)
+    unfolding worked
+    cuts s a r h =
+        let long : length (a .lent) ≡ length (a .bytes) =
+        ap length (r .lent) ∙ out-length sp (ruleOf (operation (a .flags))) (opened sp s (a .flags) false .duplex) (a .bytes) in
+        let e : operation (mirrored (a .flags)) ≡ other (operation (a .flags)) = turned-operation (a .flags) (r .one-of-twenty) in
+        record {
+          lends = cut-lends (operation (a .flags)) a (r .one-of-twenty);
+          within = rw e (cut-within (operation (a .flags)) a (λ m. rw long (h m)));
+          uncut = λ m. cut-whole (operation (a .flags)) a (rw e at m);
+        }
+
+    all-cuts : (os : List Joined) (s t : Strobe) → Course sp s os t → Every MacFits os
+        → Every (λ (o : Joined). OneOfTwenty (o .flags)) os × Each Cuts os (map cutting os)
+    all-cuts [] s t c h = (tt, tt)
+    all-cuts (o ∷ os) s t c h =
+        let rest = all-cuts os (whole sp s o .strobe) t (c .1) (h .1) in
+        ((c .0 .one-of-twenty, rest .0), (cuts s o (c .0) (h .0), rest .1))
 
 -- ---- the first operation begins with the name
 
@@ -159,10 +161,10 @@ module _ {Edition : Type 0} (sp : Sponge) (sound : Sound sp) (reloaded : Edition
   from-course name os t n =
       subst (λ (xs : List Joined). Course sp (unnamed sp) xs t → Every MacFits xs → Mirrored name xs) (sym (n .is))
       (λ c h.
-      let ks = map (cutting sp) (n .rest) in
-      let k = all-cuts sp (n .rest) (whole sp (unnamed sp) (n .first) .strobe) t (c .1) (h .1) in
+      let ks = map (cutting Edition) (n .rest) in
+      let k = all-cuts Edition sp (n .rest) (whole sp (unnamed sp) (n .first) .strobe) t (c .1) (h .1) in
       let whole-name : n .first .bytes ≡ name ++ flatten (n .tail ∷ []) = n .bytes ∙ ap (λ (x : List ℕ). name ++ x) (one-piece (n .tail)) in
-      (answering (n .tail ∷ []) (n .rest) ks, any-cut sp sound reloaded name (n .first) (n .tail ∷ []) (n .rest) ks (n .flags) whole-name (k .0) (k .1)))
+      (answering (n .tail ∷ []) (n .rest) ks, any-cut sp sound reloaded keeps name (n .first) (n .tail ∷ []) (n .rest) ks (n .flags) whole-name (k .0) (k .1)))
 
   pub mirror-exists : (name : List ℕ) (a : List (Act Edition)) → let os = operations name (log sp reloaded (fresh sp name) a) in
       Every MacFits os → Mirrored name os
@@ -176,7 +178,7 @@ module _ {Edition : Type 0} (sp : Sponge) (sound : Sound sp) (reloaded : Edition
       NoneRejected es → Every MacFits (operations name es)
       → (b : List (Act Edition)) × let fs = log sp reloaded (fresh sp name) b in
       NoneRefused fs × Each Mirrors (operations name es) (operations name fs)
-      × Replayed name es fs (ends sp reloaded (fresh sp name) a) (ends sp reloaded (fresh sp name) b)
+      × Replayed sp name es fs (ends sp reloaded (fresh sp name) a) (ends sp reloaded (fresh sp name) b)
   replay-exists name a n h =
       let m = mirror-exists name a h in
       (m .0, (m .1 .0, m .1 .1, replay sp sound reloaded keeps name a (m .0) n (m .1 .1)))

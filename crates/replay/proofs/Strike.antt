@@ -8,22 +8,22 @@ use Rattle.strobe.specs.Duplex.{Sponge}
 use Rattle.strobe.specs.Runs.{effect}
 use Rattle.strobe.specs.Strobe.{Strobe}
 use Rattle.replay.specs.History.{Act, ask, reload, Entry, entry, ends, log, struck}
-use Rattle.replay.specs.Strike.{strike}
+use Rattle.replay.specs.Strike.{withoutRefused}
 
 module _ {Edition : Type 0} (sp : Sponge) (reloaded : Edition → Strobe → Strobe) where
-  abbrev Left : Strobe → List (Act Edition) → List (Act Edition) → Type 0
-  Left s acts kept = (log sp reloaded s kept ≡ struck (log sp reloaded s acts)) × (ends sp reloaded s kept ≡ ends sp reloaded s acts)
+  abbrev Unchanged : Strobe → List (Act Edition) → List (Act Edition) → Type 0
+  Unchanged s acts kept = (log sp reloaded s kept ≡ struck (log sp reloaded s acts)) × (ends sp reloaded s kept ≡ ends sp reloaded s acts)
 
-  pub refused-change-nothing : (acts : List (Act Edition)) (s : Strobe) → Left s acts (strike sp reloaded s acts)
-  unfolding ends log struck strike
+  pub refused-change-nothing : (acts : List (Act Edition)) (s : Strobe) → Unchanged s acts (withoutRefused sp reloaded s acts)
+  unfolding ends log struck withoutRefused
   refused-change-nothing [] s = (refl, refl)
   refused-change-nothing (reload e ∷ acts) s = refused-change-nothing acts (reloaded e s)
   refused-change-nothing (ask c ∷ acts) s = go (refuses (effect sp s c .answer)) refl (refused-change-nothing acts (effect sp s c .strobe))
     where
       rest : List (Act Edition)
-      rest = strike sp reloaded (effect sp s c .strobe) acts
+      rest = withoutRefused sp reloaded (effect sp s c .strobe) acts
 
-      go : (t : Bool) → refuses (effect sp s c .answer) ≡ t → Left (effect sp s c .strobe) acts rest
+      go : (t : Bool) → refuses (effect sp s c .answer) ≡ t → Unchanged (effect sp s c .strobe) acts rest
           → (log sp reloaded s (cond t rest (ask c ∷ rest))
           ≡ cond t (struck (log sp reloaded (effect sp s c .strobe) acts)) (entry c (effect sp s c) ∷ struck (log sp reloaded (effect sp s c .strobe) acts)))
           × (ends sp reloaded s (cond t rest (ask c ∷ rest)) ≡ ends sp reloaded (effect sp s c .strobe) acts)

@@ -1,26 +1,40 @@
 -- Every call leaves a usable session usable: well formed, and its state of the sponge's size. So is a fresh session. Assumes nothing.
 use Prim.Native.Nat.{ℕ, zero, suc, _+_, _-_}
-use mathlib.Core.Path.{_≡_, ap, _∙_}
+use mathlib.Core.Path.{_≡_, refl, ap, _∙_, subst}
 use mathlib.Core.List.{List, [], _∷_}
 use mathlib.Core.Bool.{Bool, true, false, not, cond, _&&_}
 use lib.Dec.{eqb}
 use lib.ListN.{length, length-set, length-replicate}
-use borrow.Author.Tests.{lt-ltb}
+use borrow.Author.Tests.{lt-ltb, eqb-true, eq-eqb}
 use native.Mathlib.Omega.{arith}
-use Rattle.strobe.proofs.Calls.{well-ordered, ordered-well}
+use Rattle.laws.proofs.Bools.{true-not-false}
+use Rattle.strobe.proofs.Calls.{well-ordered, well-known, ordered-well}
 use Rattle.strobe.proofs.Runs.{call-well}
 use Rattle.strobe.specs.Duplex.{Sponge, Duplex, Rule, mix, placed, padded, close, closeIfFull, step, after}
-use Rattle.strobe.specs.Flags.{C, META-AD, has, operation, absorbing, ruleOf}
+use Rattle.strobe.specs.Flags.{flags, known, C, META-AD, has, operation, absorbing, ruleOf}
 use Rattle.strobe.specs.Runs.{Call, effect}
-use Rattle.strobe.specs.Strobe.{Strobe, mixed, directed, forced, beginOp, opened, wellFormed, refusal, worked, settled, call, seed, unnamed, fresh}
+use Rattle.strobe.specs.Strobe.{Strobe, isLast, knownLast, mixed, directed, forced, beginOp, opened, wellFormed, refusal, worked, settled, call, seed, unnamed, fresh}
 use Rattle.strobe.specs.declared.flags.Flags.{Flags}
-use Rattle.replay.specs.Reload.{Sound, Usable, Kept}
+use Rattle.strobe.specs.declared.last.Last.the-variants.{Nothing, Op}
+use Rattle.strobe.specs.declared.last.Last.{Last}
+use Rattle.replay.specs.Reload.{Kept}
+use Rattle.replay.specs.Usable.{Sound, Usable}
+
+-- a last operation that is not invented is one of the twenty
+last-known : (l m : Last) → ((f : Flags) → isLast m f ≡ true → isLast l f ≡ true) → knownLast l ≡ true → knownLast m ≡ true
+last-known l Nothing h k = refl
+last-known l (Op f) h k = go l (h f (eq-eqb (f .0) (f .0) refl)) k
+  where
+    go : (l : Last) → isLast l f ≡ true → knownLast l ≡ true → known (operation f) ≡ true
+    go Nothing e k = absurd (true-not-false e refl)
+    go (Op g) e k = subst (λ (n : ℕ). known (operation (flags n)) ≡ true) (eqb-true (g .0) (f .0) e) k
 
 -- what a reload keeps stays usable
 pub reload-usable : (sp : Sponge) (s t : Strobe) → Usable sp s → Kept s t → Usable sp t
 reload-usable sp s t u k =
     record {
-      well = ordered-well (sp .rate) t (rw (k .duplex) (well-ordered (sp .rate) s (u .well))) (k .known);
+      well = ordered-well (sp .rate) t (rw (k .duplex) (well-ordered (sp .rate) s (u .well)))
+          (last-known (s .last) (t .last) (k .last) (well-known (sp .rate) s (u .well)));
       sized = ap (λ (d : Duplex). length (d .st)) (k .duplex) ∙ u .sized;
     }
 

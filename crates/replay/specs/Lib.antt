@@ -2,11 +2,13 @@ pub mod History
 pub mod Whole
 pub mod Each
 pub mod Mirror
+pub mod Usable
 pub mod Reload
 pub mod Replay
+pub mod Alike
+pub mod Cuts
+pub mod Strike
 pub mod Editions
 pub mod Played
-pub mod Strike
-pub mod Cuts
 pub mod Rules
 pub mod Mistakes

@@ -3,14 +3,16 @@ use mathlib.Core.Bool.{Bool, true, false, cond, _||_}
 use Prim.Native.Nat.{ℕ}
 use lib.Bits.{bitXor}
 use lib.Dec.{eqb}
-use Rattle.strobe.specs.Duplex.{Rule}
+use Rattle.strobe.specs.Duplex.{Sponge, Rule}
 use Rattle.strobe.specs.Flags.{I, has, absorbing, enciphering, untouched, ruleOf}
-use Rattle.strobe.specs.Strobe.{directed, mixed}
+use Rattle.strobe.specs.Strobe.{Strobe, directed, mixed}
 use Rattle.strobe.specs.declared.direction.Direction.the-variants.{Neither, Sender, Receiver}
 use Rattle.strobe.specs.declared.direction.Direction.{Direction}
 use Rattle.strobe.specs.declared.flags.Operation.the-variants.{Ad, Ratchet, Key, Prf, SendClr, RecvClr, SendMac, RecvMac, SendEnc, RecvEnc, Unknown}
 use Rattle.strobe.specs.declared.flags.Operation.{Operation}
-use Rattle.replay.specs.Rules.{Rules, ruled}
+use Rattle.replay.specs.Rules.{Rules, ruled, Request, endOf, madeBy}
+use Rattle.replay.specs.Usable.{Sound}
+use Rattle.replay.specs.Whole.{OneOfTwenty, Right}
 
 -- the number of a row
 abbrev place : Operation → ℕ
@@ -27,7 +29,7 @@ place RecvEnc = 9
 place Unknown = 10
 
 -- the table with one row changed
-abbrev pub withRow : Operation → Rule → Operation → Rule
+abbrev withRow : Operation → Rule → Operation → Rule
 withRow o r p = cond (eqb (place p) (place o)) r (ruleOf p)
 
 -- ---- five that break it
@@ -71,3 +73,8 @@ prfFrozen = withRow Prf (record { state = λ s b. 0; buffer = λ s b. 0 })
 -- a cipher that copies its bytes, at both ends
 abbrev pub cipherCopies : Operation → Rule
 cipherCopies p = cond (eqb (place p) (place SendEnc) || eqb (place p) (place RecvEnc)) untouched (ruleOf p)
+
+-- what a table makes is what the definition makes
+abbrev pub MeetsDefinition : (Operation → Rule) → Type 0
+MeetsDefinition table =
+    (sp : Sponge) → Sound sp → (s : Strobe) (q : Request) → OneOfTwenty (q .flags) → Right sp s (madeBy (ruled table) sp (endOf s) q)

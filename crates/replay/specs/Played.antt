@@ -2,31 +2,27 @@
 use mathlib.Core.List.{List, [], _∷_}
 use mathlib.Core.Path.{_≡_}
 use Prim.Native.Nat.{ℕ}
-use lib.ListN.{take}
-use Rattle.saved.specs.Saved.{size, loaded, Saves}
+use Rattle.saved.specs.Saved.{loaded}
 use Rattle.strobe.specs.Answer.{number}
 use Rattle.strobe.specs.Runs.{Call}
 use Rattle.strobe.specs.Session.{freshAt, Is, Calls}
-use Rattle.strobe.specs.declared.answer.Answer.the-variants.{Done}
-use Rattle.strobe.specs.declared.answer.Answer.{Answer}
 use Rattle.strobe.specs.declared.level.Level.{Level}
 use Rattle.strobe.specs.declared.session.Outcome.{Outcome}
 use Rattle.strobe.specs.declared.session.Session.{Session}
-use Rattle.replay.specs.Editions.{Edition, edition1}
+use Rattle.replay.specs.Editions.{Edition, formIn}
 use Rattle.replay.specs.History.{Act, ask, reload, Entry}
 
 pub data Step : Type 0 where
   -- `call`, or an operation by name: what it was given, what it returned, and the lent buffer after it
   called : Call → Outcome → List ℕ → Step
-  -- `save` into a buffer, its answer, the buffer after it; then `load` of the form in it, and what that returned
-  savedAndLoaded : List ℕ → Answer → List ℕ → Outcome → Step
+  -- `load`: the bytes that it was given, a form of the session, and what it returned. `save` writes such bytes
+  loadedFrom : Edition → List ℕ → Outcome → Step
 
--- from one session on, each step made with the session that the one before returned, up to the last
+-- from a session on, each step made with the session that the one before returned, up to the last
 abbrev pub Returns : Session → List Step → Session → Type 0
 Returns s [] t = t ≡ s
 Returns s (called c r bs′ ∷ steps) t = Calls s (c .flags) (c .more) (c .bytes) r bs′ × Returns (r .session) steps t
-Returns s (savedAndLoaded bs a bs′ r ∷ steps) t =
-    Saves s bs a bs′ × (a ≡ Done) × Is (loaded (take size bs′)) r × Returns (r .session) steps t
+Returns s (loadedFrom e bs r ∷ steps) t = (bs ≡ formIn e s) × Is (loaded bs) r × Returns (r .session) steps t
 
 -- `new`, then the steps
 pub record Played (l : Level) (name : List ℕ) (steps : List Step) (t : Session) : Type 0 where
@@ -38,10 +34,10 @@ pub record Played (l : Level) (name : List ℕ) (steps : List Step) (t : Session
 abbrev pub entries : List Step → List Entry
 entries [] = []
 entries (called c r bs′ ∷ steps) = record { call = c; answer = number (r .answer); lent = bs′ } ∷ entries steps
-entries (savedAndLoaded bs a bs′ r ∷ steps) = entries steps
+entries (loadedFrom e bs r ∷ steps) = entries steps
 
 -- the same as acts
 abbrev pub acts : List Step → List (Act Edition)
 acts [] = []
 acts (called c r bs′ ∷ steps) = ask c ∷ acts steps
-acts (savedAndLoaded bs a bs′ r ∷ steps) = reload edition1 ∷ acts steps
+acts (loadedFrom e bs r ∷ steps) = reload e ∷ acts steps

@@ -8,9 +8,9 @@ use Rattle.strobe.specs.Strobe.{Strobe}
 use Rattle.replay.specs.History.{Act, ask, reload}
 
 module _ {Edition : Type 0} (sp : Sponge) (reloaded : Edition → Strobe → Strobe) where
-  unfoldable pub strike : Strobe → List (Act Edition) → List (Act Edition)
-  strike s [] = []
-  strike s (ask c ∷ acts) =
-      let rest = strike (effect sp s c .strobe) acts in
+  unfoldable pub withoutRefused : Strobe → List (Act Edition) → List (Act Edition)
+  withoutRefused s [] = []
+  withoutRefused s (ask c ∷ acts) =
+      let rest = withoutRefused (effect sp s c .strobe) acts in
       cond (refuses (effect sp s c .answer)) rest (ask c ∷ rest)
-  strike s (reload e ∷ acts) = reload e ∷ strike (reloaded e s) acts
+  withoutRefused s (reload e ∷ acts) = reload e ∷ withoutRefused (reloaded e s) acts
