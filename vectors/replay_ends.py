@@ -3,20 +3,20 @@
 
 It does with strobe.py what the program does with the library, but takes each
 operation whole. It writes the crate's stdout, or, with --check, compares it
-with what would be written. It ends with an error if the two ends disagree.
+with what would be written. It fails if the ends disagree or the plan has gaps.
 """
 import sys
 from pathlib import Path
 
 sys.dont_write_bytecode = True  # a run leaves no file beside this one
 import keccak
+from replay_plan import FIRST, LONGEST_MAC, SECOND, drawn, test_plan
 from saved import SIZE, load, save
 from strobe import (
-    AD, DONE, I, K, M, OPERATIONS, PRF, RATCHET, RATES, RECV_MAC, SEND_MAC, T,
-    fresh, test_strobe)
+    AD, CUT_MAC, DONE, I, K, M, NOT_THE_LAST, PRF, RATCHET, RATES, RECV_MAC,
+    SEND_MAC, T, fresh, test_strobe)
 
 CRATE = Path(__file__).resolve().parent.parent / "crates" / "replay_ends"
-FIRST, SECOND = 1, 2
 
 
 class End:
@@ -28,15 +28,21 @@ class End:
         self.loaded = self.refused = "-"
 
     def overnight(self):
-        """A save and a load; what going on behind them is answered."""
+        """A save and a load."""
         last = self.session.cur_flags
         saved, form = save(self.session, bytes(SIZE))
         loaded, self.session = load(form)
         if (saved, loaded) != (DONE, DONE):
             sys.exit("an end was not saved and loaded")
-        self.loaded = self.session.refusal(last, True, 65)
-        if self.loaded == DONE:
-            sys.exit("a loaded end goes on with its last operation")
+        self.go_on(last)
+
+    def go_on(self, last):
+        """More of the operation that was last before the save. A load of
+        edition 1 sets none, so it is refused, and a received MAC always."""
+        expected = CUT_MAC if last & ~M == RECV_MAC else NOT_THE_LAST
+        self.loaded = self.session.refusal(last, True, LONGEST_MAC + 1)
+        if self.loaded != expected:
+            sys.exit(f"a loaded end that goes on is answered {self.loaded}")
 
     def attempt(self, which, flags):
         """What a call that is to be refused is answered."""
@@ -44,7 +50,7 @@ class End:
         mac = RECV_MAC | flags & M
         call = [(flags | K, False), (flags & (I | T | M), False),
                 (last ^ M, True), (mac, True), (mac, False)][which]
-        self.refused = self.session.refusal(*call, 65)
+        self.refused = self.session.refusal(*call, LONGEST_MAC + 1)
         if self.refused == DONE:
             sys.exit(f"a call with {call} is not refused")
 
@@ -57,29 +63,6 @@ class End:
         return (f"{self.loaded} {self.refused} {self.answer} "
                 f"{self.session.pos} {self.session.pos_begin} "
                 f"{self.given.hex()}")
-
-
-class Step:
-    """What the plan gives for an operation: src/meaning.rt."""
-
-    def __init__(self, plan, opening):
-        told = plan.call(PRF, False, bytes(8))[1]
-        data = plan.call(PRF, False, bytes(400))[1]
-        self.more = opening
-        self.flags = M | AD if opening else OPERATIONS[told[0] % 20]
-        # Bytes 1 and 2 are the sizes of pieces, and here nothing is cut.
-        if opening:
-            length = 399
-        elif self.flags & ~(M | I) == SEND_MAC:
-            length = told[4] % 65
-        elif told[3] % 4 == 0:
-            length = (told[3] // 4 * 256 + told[4]) % 400
-        else:
-            length = told[4] % 48
-        self.data = data[:length]
-        saved = told[5] % 8
-        self.saved = saved if saved < 4 and not opening else 0
-        self.who, self.which = told[6] % 8, told[7] % 5
 
 
 def mirror(flags):
@@ -103,15 +86,15 @@ def play(step, first, second):
     before(second, SECOND, step, there)
     if not here & T:
         blind = here & ~M in (RATCHET, PRF)
-        first.operate(here, step.more, step.data)
-        second.operate(there, step.more,
+        first.operate(here, step.opening, step.data)
+        second.operate(there, step.opening,
                        bytes(len(step.data)) if blind else step.data)
     elif here & I:
-        second.operate(there, step.more, step.data)
-        first.operate(here, step.more, second.given)
+        second.operate(there, step.opening, step.data)
+        first.operate(here, step.opening, second.given)
     else:
-        first.operate(here, step.more, step.data)
-        second.operate(there, step.more, first.given)
+        first.operate(here, step.opening, step.data)
+        second.operate(there, step.opening, first.given)
 
 
 def agree(step, first, second):
@@ -129,13 +112,11 @@ def agree(step, first, second):
             and one.pos_begin == other.pos_begin)
 
 
-def level_lines(level):
+def level_lines(level, steps):
     """The lines of a level."""
-    plan = fresh(b"a plan for two ends", level)
     first, second = End(level), End(level)
     yield f"Strobe-Keccak-{level}/1600-v1.0.2"
-    for number in range(200):
-        step = Step(plan, number == 0)
+    for number, step in enumerate(steps):
         play(step, first, second)
         if not agree(step, first, second):
             sys.exit(f"{level}: the ends disagree after operation {number}")
@@ -151,7 +132,10 @@ def main():
         sys.exit("usage: replay_ends.py [--check]")
     keccak.test_permutation()
     test_strobe()
-    lines = [line for level in RATES for line in level_lines(level)]
+    plans = {level: drawn(level) for level in RATES}
+    test_plan(plans)
+    lines = [line for level, steps in plans.items()
+             for line in level_lines(level, steps)]
     text = "".join(line + "\n" for line in lines).encode("ascii")
     path = CRATE / "stdout"
     if sys.argv[1:] != ["--check"]:

@@ -1,5 +1,7 @@
-// What an end does before an operation, if the plan says so: it is saved and loaded again, and it tries a call that is refused. The bytes that it
-// lends are those of the operation that comes, so a byte that is changed is seen there.
+// What an end does before an operation, if the plan says so: it is saved and loaded again, and it tries a call that is refused. That call's bytes are
+// compared with what they were. Its session goes on: a change of the state or of a position is seen in the lines that follow, one of the direction or
+// of the last operation not always.
+use crate::meaning::LONGEST_MAC;
 use strobe::Answer;
 use strobe::Flags;
 use strobe::Last;
@@ -15,41 +17,47 @@ pub enum Attempt {
     LongMac,
 }
 
-// What a call that is refused was answered, if there was one.
+// What a call that is refused was answered, if there was one, or that it changed its bytes.
 pub enum Note {
     Nothing,
     Answered(Answer),
+    Changed,
 }
 
-// The operation goes on with the session and the bytes, which must be what they were.
+// The operation goes on with the session.
 pub struct Trial {
     pub session: Session,
-    pub bytes: [u8; 400],
     pub note: Note,
 }
 
-fn not_tried(session: Session, bytes: [u8; 400]) -> Trial {
+fn not_tried(session: Session) -> Trial {
     Trial {
         session,
-        bytes,
         note: Note::Nothing,
     }
 }
 
-// Each call lends 65 bytes, one more than a received MAC may have. The other refusals have nothing to do with the length.
+fn noted(answer: Answer, before: [u8; 400], after: [u8; 400]) -> Note {
+    if check::same(&before, &after) {
+        Note::Answered(answer)
+    } else {
+        Note::Changed
+    }
+}
+
+// Each call lends one byte more than a received MAC may have. The other refusals have nothing to do with the length.
 fn tried(session: Session, bytes: [u8; 400], flags: Flags, more: bool) -> Trial {
-    let mut bytes = bytes;
-    let out = session.call(flags, more, &mut bytes[0..65]);
+    let mut lent = bytes;
+    let out = session.call(flags, more, &mut lent[0..LONGEST_MAC + 1]);
     let session = out.session;
     let answer = out.answer;
     Trial {
         session,
-        bytes,
-        note: Note::Answered(answer),
+        note: noted(answer, bytes, lent),
     }
 }
 
-// A session that was just loaded has none, and any operation will do.
+// A session without a last operation can't go on with any, so any will do.
 fn last_flags(session: Session) -> Flags {
     let last = session.last;
     match last {
@@ -58,15 +66,22 @@ fn last_flags(session: Session) -> Flags {
     }
 }
 
-// A loaded session can't go on with what was its last operation before the save. One that was not loaded could.
+// More of the operation that was last before the save. A load of edition 1 sets no last operation, so the answer is NotTheLast; after a received MAC
+// it is CutMac, as for every session.
+fn went_on(loaded: Session, bytes: [u8; 400], last: Flags) -> Trial {
+    tried(loaded, bytes, last, true)
+}
+
+// The save's answer is not looked at: after a refused one the form is zeros, the load is refused too and gives a blank, and from there on each answer
+// on the lines is NotASession.
 pub fn overnight(session: Session, bytes: [u8; 400], saved: bool) -> Trial {
     if !saved {
-        return not_tried(session, bytes);
+        return not_tried(session);
     }
     let mut form = [0u8; 205];
     saved::save(session, &mut form);
-    let morning = saved::load(&form);
-    tried(morning.session, bytes, last_flags(session), true)
+    let loaded = saved::load(&form).session;
+    went_on(loaded, bytes, last_flags(session))
 }
 
 // The last operation's other form, meta if that is plain.
@@ -87,7 +102,7 @@ fn received_mac(flags: Flags) -> Flags {
 // The flags are those of the operation that comes.
 pub fn attempted(session: Session, bytes: [u8; 400], attempt: Attempt, flags: Flags) -> Trial {
     match attempt {
-        Attempt::Nothing => not_tried(session, bytes),
+        Attempt::Nothing => not_tried(session),
         Attempt::KeyFlag => tried(session, bytes, Flags(flags.0 | Flags::K.0), false),
         Attempt::NoOperation => tried(session, bytes, no_operation(flags), false),
         Attempt::NotTheLast => tried(session, bytes, not_the_last(session), true),

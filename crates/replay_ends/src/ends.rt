@@ -57,13 +57,11 @@ impl End {
     // The end's part of an operation, with what the plan puts before it.
     fn play(self, part: Part, lent: [u8; 400]) -> End {
         let morning = before::overnight(self.session, lent, part.saved);
-        let kept = morning.bytes;
         let attempt = part.attempt;
-        let still = before::attempted(morning.session, kept, attempt, part.flags);
-        let bytes = still.bytes;
+        let still = before::attempted(morning.session, lent, attempt, part.flags);
         let loaded = morning.note;
         let refused = still.note;
-        End::operated(still.session, bytes, part, loaded, refused)
+        End::operated(still.session, lent, part, loaded, refused)
     }
 }
 

@@ -5,7 +5,8 @@
 //     begin position, and its bytes after the operation in hexadecimal
 //   the second end: the same
 //
-// A `-` is for what was not tried. The first line of a level is its version text, the last one has both ends' states.
+// A `-` is for what was not tried, `changed` for a refused call that changed its bytes, of which there is none. The first
+// line of a level is its version text, the last one has both ends' states.
 use crate::before::Note;
 use crate::ends::End;
 use crate::ends::Ends;
@@ -22,6 +23,7 @@ fn write_note(note: Note) {
     match note {
         Note::Nothing => output::write_text(b"-"),
         Note::Answered(answer) => write_answer(answer),
+        Note::Changed => output::write_text(b"changed"),
     }
 }
 

@@ -18,8 +18,9 @@ struct Game {
     ends: Ends,
 }
 
+// With the number behind its name the plan has all that vectors/replay_plan.py asks of it.
 fn begun(level: Level) -> Game {
-    let plan = Session::new(b"a plan for two ends", level).session;
+    let plan = Session::new(b"a plan for two ends, 61", level).session;
     output::write_text(&plan.version_str());
     output::write_text(b"\n");
     Game {

@@ -14,6 +14,9 @@ pub const FIRST: u8 = 1;
 
 pub const SECOND: u8 = 2;
 
+// The limit of one call that receives a MAC. The plan keeps to it for sent ones, as each is received at the other end.
+pub const LONGEST_MAC: usize = 64;
+
 // In the order of docs/RULES.md, section 1, the plain forms before the meta forms.
 pub fn operation(byte: u8) -> Flags {
     let place = byte % 20;
@@ -52,10 +55,10 @@ pub fn size(flags: Flags, byte: u8) -> usize {
     byte as usize
 }
 
-// A MAC has at most 64 bytes. Of the other lengths one in four is below 400, which can be more than two blocks, the rest are below 48.
+// A MAC has any length up to its limit. Of the other lengths one in four is below 400, which can be more than two blocks, the rest are below 48.
 pub fn length(flags: Flags, high: u8, low: u8) -> usize {
     if flags::are_of(flags, Flags::SEND_MAC) || flags::are_of(flags, Flags::RECV_MAC) {
-        return (low % 65) as usize;
+        return low as usize % (LONGEST_MAC + 1);
     }
     if high % 4 == 0 {
         return ((high / 4) as usize * 256 + low as usize) % 400;

@@ -1,3 +1,4 @@
+-- `mirror` gives the flags that the theorem's `mirrored` gives, by the two cases of T. Assumes nothing.
 use borrow.Author.Needs.{needs}
 use mathlib.Core.Path.{_≡_, sym, _∙_}
 use mathlib.Core.Bool.{Bool, true, false}
