@@ -10,7 +10,7 @@ use Rattle.strobe.proofs.Calls.{verdict-done}
 use Rattle.strobe.proofs.Data.{after-append, out-append, out-kept}
 use Rattle.strobe.specs.Answer.{refuses}
 use Rattle.strobe.specs.Duplex.{Sponge, Duplex, out, met, same}
-use Rattle.strobe.specs.Flags.{META-AD, operationOf, operation, known, isRecvMac, absorbing, ruleOf}
+use Rattle.strobe.specs.Flags.{META-AD, operationOf, operation, isRecvMac, absorbing, ruleOf}
 use Rattle.strobe.specs.Runs.{Call, effect}
 use Rattle.strobe.specs.Strobe.{Strobe, Effect, opened, isLast, refusal, verdict, worked, settled, call, unnamed, fresh}
 use Rattle.strobe.specs.declared.flags.Flags.{Flags}
@@ -18,7 +18,7 @@ use Rattle.strobe.specs.declared.flags.Operation.{Operation}
 use Rattle.replay.specs.History.{Act, ask, reload, Entry, entry, ends, log, struck, Joined, begun, carriedOn, joined, naming, operations}
 use Rattle.replay.specs.Reload.{Keeps}
 use Rattle.replay.specs.Usable.{Sound, Usable}
-use Rattle.replay.specs.Whole.{whole, Right, Course}
+use Rattle.replay.specs.Whole.{OneOfTwenty, whole, Right, Course}
 use Rattle.replay.proofs.Usable.{call-usable, reload-usable, unnamed-usable, fresh-usable}
 
 -- ---- the answer of work that is done
@@ -45,9 +45,9 @@ module _ (sp : Sponge) where
   -- the bytes of a further piece
   on-with : (s₀ : Strobe) (o : Joined) (s : Strobe) (bs : List ℕ) → Under s₀ o s → isRecvMac (operation (o .flags)) ≡ false
       → let w = worked sp s (operation (o .flags)) bs in
-      Usable sp (w .strobe) → (more : Bool) → Under s₀ (carriedOn o (entry (record { flags = o .flags; more = more; bytes = bs }) w)) (w .strobe)
+      Usable sp (w .strobe) → Under s₀ (carriedOn o (entry (record { flags = o .flags; more = true; bytes = bs }) w)) (w .strobe)
   unfolding worked
-  on-with s₀ o s bs u nm usable more =
+  on-with s₀ o s bs u nm usable =
       let op = operation (o .flags) in
       let d = opened sp s₀ (o .flags) false .duplex in
       let zero-so-far : o .answer ≡ 0 = u .right .answer ∙ sym (verdict-done sp op d (o .bytes) nm) in
@@ -76,11 +76,11 @@ module _ (sp : Sponge) where
       (λ (g : Flags). isRecvMac (operation g) ≡ false → Usable sp (worked sp s (operation g) bs .strobe)
       → Under s₀ (carriedOn o (entry (record { flags = g; more = true; bytes = bs }) (worked sp s (operation g) bs))) (worked sp s (operation g) bs .strobe))
       (sym same-flags)
-      (λ nm usable. on-with s₀ o s bs u nm usable true)
+      (on-with s₀ o s bs u)
       (p .not-cut)
 
   -- one with `more` off begins the next
-  under-next : (s : Strobe) (f : Flags) (bs : List ℕ) → known (operation f) ≡ true
+  under-next : (s : Strobe) (f : Flags) (bs : List ℕ) → OneOfTwenty f
       → let w = worked sp (opened sp s f false) (operation f) bs in
       Usable sp (w .strobe) → Under s (begun (entry (record { flags = f; more = false; bytes = bs }) w)) (w .strobe)
   unfolding worked opened

@@ -10,7 +10,7 @@ use Rattle.strobe.proofs.Accepted.{of-passed, call-done, opened-last}
 use Rattle.strobe.specs.Answer.{refuses}
 use Rattle.strobe.specs.Duplex.{Sponge}
 use Rattle.strobe.specs.Every.{Every}
-use Rattle.strobe.specs.Flags.{META-AD, operationOf, operation, known, isRecvMac, overLimit}
+use Rattle.strobe.specs.Flags.{META-AD, operationOf, operation, isRecvMac, overLimit}
 use Rattle.strobe.specs.Runs.{Call, effect}
 use Rattle.strobe.specs.Strobe.{Strobe, Effect, opened, isLast, refusal, worked, unnamed, fresh}
 use Rattle.strobe.specs.declared.flags.Flags.{Flags}
@@ -42,7 +42,7 @@ module _ {Edition : Type 0} (sp : Sponge) (sound : Sound sp) (reloaded : Edition
 
   record Fits (s : Strobe) (c : Call) : Type 0 where
     usable : Usable sp s
-    one-of-twenty : known (operation (c .flags)) ≡ true
+    one-of-twenty : OneOfTwenty (c .flags)
     not-cut : c .more && isRecvMac (operation (c .flags)) ≡ false
     same-last : c .more && not (isLast (s .last) (c .flags)) ≡ false
     within-limit : overLimit (operation (c .flags)) (length (c .bytes)) ≡ false
@@ -77,7 +77,7 @@ module _ {Edition : Type 0} (sp : Sponge) (sound : Sound sp) (reloaded : Edition
   abbrev Mirroring : Joined → List Joined → Joined → List Entry → Type 0
   Mirroring a os p es = NoneRefused es × Each Mirrors (a ∷ os) (joined p es)
 
-  module _ (a : Joined) (os : List Joined) (rest : List (Act Edition)) (k : known (operation (mirrored (a .flags))) ≡ true)
+  module _ (a : Joined) (os : List Joined) (rest : List (Act Edition)) (k : OneOfTwenty (mirrored (a .flags)))
       (behind : (s : Strobe) (p : Joined) → Usable sp s → Mirrors a p → Mirroring a os p (log sp reloaded s rest)) where
     carry-on : (pieces : List (List ℕ)) (s : Strobe) (p : Joined) → Ready s (mirrored (a .flags)) → p .flags ≡ mirrored (a .flags)
         → Lends (operation (a .flags)) a (p .bytes ++ flatten pieces) → Every (Within (mirrored (a .flags))) pieces

@@ -9,9 +9,12 @@ use Rattle.strobe.specs.Duplex.{Sponge, Duplex, mix, padded, closeIfFull, step,
 use Rattle.strobe.specs.Flags.{META-AD, ruleOf, PRF, SEND-CLR, RECV-CLR, SEND-MAC, RECV-MAC, SEND-ENC, RECV-ENC, operationOf, operation}
 use Rattle.strobe.specs.Strobe.{unnamed, seed, mixed, forced, beginOp, opened, worked}
 use Rattle.strobe.specs.declared.flags.Flags.{Flags}
+use Rattle.replay.specs.Mirror.{Mirrors, Agrees}
 use Rattle.replay.specs.Mistakes.{plaintextKept, prfXored, macAbsorbed, mixedAsCalled, directedByAll, prfFrozen, cipherCopies, MeetsDefinition}
-use Rattle.replay.specs.Rules.{ruled, Request, made, endAfter, Replays}
+use Rattle.replay.specs.Rules.{Rules, ruled, Request, endOf, madeBy, nextBy, made, endAfter, Replays}
+use Rattle.replay.specs.Replay.{OperationsDone}
 use Rattle.replay.specs.Usable.{Sound}
+use Rattle.replay.specs.Whole.{OneOfTwenty}
 use Rattle.replay.proofs.Tables.{rows-replay, strobe-is, strobe-rows}
 
 -- ---- a sponge to compute with: eighteen state bytes, a rate of sixteen, and a permutation that changes nothing
@@ -31,48 +34,47 @@ naming = request META-AD []
 
 -- ---- the five
 
+-- what replay says of one operation behind the name
+one-operation : (v : Rules) (q r : Request) → Replays v → let e = endOf (unnamed small) in let e′ = nextBy v small e naming in
+    OneOfTwenty (q .flags) → OperationsDone (made v small e (naming ∷ q ∷ [])) → Mirrors (madeBy v small e′ q) (madeBy v small e′ r)
+    → Agrees (madeBy v small e′ q) (madeBy v small e′ r) × (nextBy v small e′ r .duplex ≡ nextBy v small e′ q .duplex)
+unfolding made endAfter operation operationOf
+one-operation v q r h k z m =
+    let w = h small small-sound (naming ∷ q ∷ []) (naming ∷ r ∷ []) (refl, (k, tt)) z (record { flags = refl; lends = refl }, (m, tt)) in
+    (w .0 .1 .0, w .1)
+
 pub plaintext-kept-breaks : Replays plaintextKept → ⊥
 unfolding made endAfter unnamed seed operation operationOf mixed forced after out step closeIfFull padded mix
 plaintext-kept-breaks h =
-    let r =
-    h small small-sound (naming ∷ request SEND-ENC (1 ∷ []) ∷ []) (naming ∷ request RECV-ENC (0 ∷ []) ∷ []) (refl, (refl, tt)) (refl, (refl, tt))
-    (record { flags = refl; lends = refl }, (record { flags = refl; lends = refl }, tt)) in
+    let r = one-operation plaintextKept (request SEND-ENC (1 ∷ [])) (request RECV-ENC (0 ∷ [])) h refl (refl, (refl, tt)) (record { flags = refl; lends = refl }) in
     let e : _≡_ {A = ℕ} 1 0 = ap (λ (d : Duplex). getD (d .st) 0 0) (r .1) in
     omega arith
 
 pub prf-xored-breaks : Replays prfXored → ⊥
 unfolding made endAfter unnamed seed operation operationOf mixed forced after out step closeIfFull padded mix
 prf-xored-breaks h =
-    let r =
-    h small small-sound (naming ∷ request PRF (1 ∷ []) ∷ []) (naming ∷ request PRF (0 ∷ []) ∷ []) (refl, (refl, tt)) (refl, (refl, tt))
-    (record { flags = refl; lends = refl }, (record { flags = refl; lends = refl }, tt)) in
-    let e : _≡_ {A = ℕ} 1 0 = ap (λ (bs : List ℕ). getD bs 0 0) (r .0 .1 .0 .gets) in
+    let r = one-operation prfXored (request PRF (1 ∷ [])) (request PRF (0 ∷ [])) h refl (refl, (refl, tt)) (record { flags = refl; lends = refl }) in
+    let e : _≡_ {A = ℕ} 1 0 = ap (λ (bs : List ℕ). getD bs 0 0) (r .0 .gets) in
     omega arith
 
 pub mac-absorbed-breaks : Replays macAbsorbed → ⊥
 unfolding made endAfter unnamed seed operation operationOf mixed forced after out step closeIfFull padded mix
 mac-absorbed-breaks h =
-    let r =
-    h small small-sound (naming ∷ request SEND-MAC (0 ∷ []) ∷ []) (naming ∷ request RECV-MAC (1 ∷ []) ∷ []) (refl, (refl, tt)) (refl, (refl, tt))
-    (record { flags = refl; lends = refl }, (record { flags = refl; lends = refl }, tt)) in
+    let r = one-operation macAbsorbed (request SEND-MAC (0 ∷ [])) (request RECV-MAC (1 ∷ [])) h refl (refl, (refl, tt)) (record { flags = refl; lends = refl }) in
     let e : _≡_ {A = ℕ} 0 1 = ap (λ (d : Duplex). getD (d .st) 0 0) (r .1) in
     omega arith
 
 pub mixed-as-called-breaks : Replays mixedAsCalled → ⊥
 unfolding made endAfter unnamed seed operation operationOf mixed forced after out step closeIfFull padded mix
 mixed-as-called-breaks h =
-    let r =
-    h small small-sound (naming ∷ request SEND-CLR [] ∷ []) (naming ∷ request RECV-CLR [] ∷ []) (refl, (refl, tt)) (refl, (refl, tt))
-    (record { flags = refl; lends = refl }, (record { flags = refl; lends = refl }, tt)) in
+    let r = one-operation mixedAsCalled (request SEND-CLR []) (request RECV-CLR []) h refl (refl, (refl, tt)) (record { flags = refl; lends = refl }) in
     let e : _≡_ {A = ℕ} 11 10 = ap (λ (d : Duplex). getD (d .st) 3 0) (r .1) in
     omega arith
 
 pub directed-by-all-breaks : Replays directedByAll → ⊥
 unfolding made endAfter unnamed seed operation operationOf mixed forced after out step closeIfFull padded mix
 directed-by-all-breaks h =
-    let r =
-    h small small-sound (naming ∷ request SEND-CLR [] ∷ []) (naming ∷ request RECV-CLR [] ∷ []) (refl, (refl, tt)) (refl, (refl, tt))
-    (record { flags = refl; lends = refl }, (record { flags = refl; lends = refl }, tt)) in
+    let r = one-operation directedByAll (request SEND-CLR []) (request RECV-CLR []) h refl (refl, (refl, tt)) (record { flags = refl; lends = refl }) in
     let e : _≡_ {A = ℕ} 11 10 = ap (λ (d : Duplex). getD (d .st) 3 0) (r .1) in
     omega arith
 

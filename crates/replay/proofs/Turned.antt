@@ -15,6 +15,7 @@ use Rattle.strobe.specs.declared.flags.Flags.{Flags}
 use Rattle.strobe.specs.declared.flags.Operation.the-variants.{Ad, Ratchet, Key, Prf, SendClr, RecvClr, SendMac, RecvMac, SendEnc, RecvEnc, Unknown}
 use Rattle.strobe.specs.declared.flags.Operation.{Operation}
 use Rattle.replay.specs.Mirror.{mirrored, opposite}
+use Rattle.replay.specs.Whole.{OneOfTwenty}
 
 abbrev pub other : Operation → Operation
 other Ad = Ad
@@ -31,7 +32,7 @@ other Unknown = Unknown
 
 -- ---- what holds at each of the twenty
 
-at-known : (P : Flags → Type 0) → Every P takers → Every P changers → Every P macs → Every P ratchets → (f : Flags) → known (operation f) ≡ true → P f
+at-known : (P : Flags → Type 0) → Every P takers → Every P changers → Every P macs → Every P ratchets → (f : Flags) → OneOfTwenty f → P f
 at-known P hs cs ms rs f k = go (operation f) refl k
   where
     go : (o : Operation) → operation f ≡ o → known o ≡ true → P f
@@ -82,7 +83,7 @@ across m =
 abbrev Turns : Flags → Type 0
 Turns f = meaning (mirrored f) ≡ across (meaning f)
 
-turns : (f : Flags) → known (operation f) ≡ true → Turns f
+turns : (f : Flags) → OneOfTwenty f → Turns f
 unfolding operation operationOf mixed
 turns =
     at-known Turns
@@ -91,7 +92,7 @@ turns =
     (refl, (refl, tt))
     (refl, (refl, tt))
 
-pub known-no-key : (f : Flags) → known (operation f) ≡ true → has f K ≡ false
+pub known-no-key : (f : Flags) → OneOfTwenty f → has f K ≡ false
 known-no-key =
     at-known (λ f. has f K ≡ false)
     (refl, (refl, (refl, (refl, (refl, (refl, (refl, (refl, tt))))))))
@@ -99,43 +100,36 @@ known-no-key =
     (refl, (refl, tt))
     (refl, (refl, tt))
 
+pub turned-known : (f : Flags) → OneOfTwenty f → OneOfTwenty (mirrored f)
+unfolding operation operationOf
+turned-known =
+    at-known (λ f. OneOfTwenty (mirrored f))
+    (refl, (refl, (refl, (refl, (refl, (refl, (refl, (refl, tt))))))))
+    (refl, (refl, (refl, (refl, (refl, (refl, (refl, (refl, tt))))))))
+    (refl, (refl, tt))
+    (refl, (refl, tt))
+
 -- ---- one by one
 
-pub turned-operation : (f : Flags) → known (operation f) ≡ true → operation (mirrored f) ≡ other (operation f)
+pub turned-operation : (f : Flags) → OneOfTwenty f → operation (mirrored f) ≡ other (operation f)
 turned-operation f k = ap (λ (m : Meaning). m .operation) (turns f k)
 
-turned-closes : (f : Flags) → known (operation f) ≡ true → has (mirrored f) C ≡ has f C
+turned-closes : (f : Flags) → OneOfTwenty f → has (mirrored f) C ≡ has f C
 turned-closes f k = ap (λ (m : Meaning). m .closes) (turns f k)
 
-pub turned-directed : (f : Flags) → known (operation f) ≡ true → (dir : Direction) → directed (opposite dir) (mirrored f) ≡ opposite (directed dir f)
+pub turned-directed : (f : Flags) → OneOfTwenty f → (dir : Direction) → directed (opposite dir) (mirrored f) ≡ opposite (directed dir f)
 turned-directed f k Neither = ap (λ (m : Meaning). m .sets) (turns f k)
 turned-directed f k Sender = refl
 turned-directed f k Receiver = refl
 
-turned-mixed : (f : Flags) → known (operation f) ≡ true → (dir : Direction)
+turned-mixed : (f : Flags) → OneOfTwenty f → (dir : Direction)
     → mixed (directed (opposite dir) (mirrored f)) (mirrored f) ≡ mixed (directed dir f) f
 turned-mixed f k Neither = ap (λ (m : Meaning). m .atFirst) (turns f k)
 turned-mixed f k Sender = ap (λ (m : Meaning). m .asReceiver) (turns f k)
 turned-mixed f k Receiver = ap (λ (m : Meaning). m .asSender) (turns f k)
 
 -- the same bytes open the operation at both ends
-pub turned-begins : (sp : Sponge) (f : Flags) → known (operation f) ≡ true → (dir : Direction) (d : Duplex)
+pub turned-begins : (sp : Sponge) (f : Flags) → OneOfTwenty f → (dir : Direction) (d : Duplex)
     → beginOp sp (directed (opposite dir) (mirrored f)) (mirrored f) d ≡ beginOp sp (directed dir f) f d
 unfolding beginOp forced
 turned-begins sp f k dir d = rw (turned-mixed f k dir, turned-closes f k)
-
-pub turned-known : (f : Flags) → known (operation f) ≡ true → known (operation (mirrored f)) ≡ true
-turned-known f k = rw (turned-operation f k) (go (operation f) k)
-  where
-    go : (o : Operation) → known o ≡ true → known (other o) ≡ true
-    go Ad k = refl
-    go Ratchet k = refl
-    go Key k = refl
-    go Prf k = refl
-    go SendClr k = refl
-    go RecvClr k = refl
-    go SendMac k = refl
-    go RecvMac k = refl
-    go SendEnc k = refl
-    go RecvEnc k = refl
-    go Unknown k = k
