@@ -1,0 +1,10 @@
+pub mod Hexadecimal
+pub mod Parts
+pub mod Lines
+pub mod Pieces
+pub mod Writing
+pub mod Walking
+pub mod Reading
+pub mod Framing
+pub mod Promise
+pub mod Shape
