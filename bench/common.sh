@@ -1,5 +1,6 @@
 # shellcheck shell=bash
-# What bench/permutation and bench/session share: the machine's tools, Debian's keccak, the counts and the table. Both read this file.
+# What bench/permutation and bench/session share: the machine's tools, Debian's keccak, the counts and the table. They read this file, and
+# bench/journal does for its first lines.
 me=${0##*/}
 out=target/bench
 program=$out/$me
@@ -15,6 +16,13 @@ quietly() {
     "$@" > "$out/log" 2>&1 || fail "$what failed, see $out/log"
 }
 
+# whole NAME VALUE: a script's argument
+whole() {
+    case "$2" in
+        '' | 0* | *[!0-9]*) fail "$1 is a number from 1 on" ;;
+    esac
+}
+
 need rt "install the Rattle kit"
 # Each file has: check_tools, keccak_folder, package_version, compile, build_program, run, count, counted_by.
 case "$(uname -m)" in
@@ -25,9 +33,7 @@ esac
 
 # start TIMES: what has to be there, an empty folder, and our side
 start() {
-    case "$1" in
-        '' | 0* | *[!0-9]*) fail "TIMES is a number from 1 on" ;;
-    esac
+    whole TIMES "$1"
     check_tools
     rm -rf "$out"
     mkdir -p "$out"

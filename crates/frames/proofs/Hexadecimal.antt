@@ -21,7 +21,8 @@ decode-encode (b ∷ bs) e =
     let upper = value-of-digit (b / 16) (omega (arith, e .0)) in
     let lower = value-of-digit (b % 16) (omega arith) in
     ap₂ (λ (u l : ℕ). cond (ltb u 16 && ltb l 16) (ahead (u * 16 + l) (decode (encode bs))) misshapen) upper lower
-    ∙ ap₂ (λ (s t : Bool). cond (s && t) (ahead (b / 16 * 16 + b % 16) (decode (encode bs))) misshapen) (lt-ltb (b / 16) 16 (omega (arith, e .0))) (lt-ltb (b % 16) 16 (omega arith))
+    ∙ ap₂ (λ (s t : Bool). cond (s && t) (ahead (b / 16 * 16 + b % 16) (decode (encode bs))) misshapen)
+    (lt-ltb (b / 16) 16 (omega (arith, e .0))) (lt-ltb (b % 16) 16 (omega arith))
     ∙ ap₂ (λ (n : ℕ) (r : Read). ahead n r) (omega arith) (decode-encode bs (e .1))
 
 -- ---- from digits to bytes and back

@@ -1,8 +1,8 @@
 -- A line read a character at a time says what `decode` says of it whole; where it is longer than a line can be, both are answered alike. Assumes nothing.
-use Prim.Native.Nat.{ℕ, suc, _+_, _*_, _%_, _≤_, _<_}
+use Prim.Native.Nat.{ℕ, _+_, _*_, _%_, _≤_, _<_}
 use mathlib.Core.Path.{_≡_, refl, sym, ap, ap₂, _∙_}
 use mathlib.Core.List.{List, [], _∷_, _++_, append-nil, append-assoc}
-use mathlib.Core.Bool.{Bool, true, false, not, cond, _&&_, _||_}
+use mathlib.Core.Bool.{Bool, true, false, not, cond, _&&_}
 use native.Mathlib.Omega.{arith}
 use lib.Dec.{eqb, ltb, leb}
 use lib.ListN.{length, length-append}
@@ -14,8 +14,8 @@ use Rattle.strobe.specs.Session.{given, created}
 use Rattle.strobe.specs.declared.session.Session.{Session}
 use Rattle.frames.specs.Hexadecimal.{Read, misshapen, bytes, decode, isDigit, byteOf, ahead}
 use Rattle.frames.specs.Frames.{limit, levelOf, bufferOf, opening, refused, calling, framed}
-use Rattle.frames.specs.Journal.{Reply, reply, opened, went}
-use Rattle.frames.specs.Steps.{Part, lineLimit, nothing, spoilt, upperRead, lowerRead, read, readOf, begun}
+use Rattle.frames.specs.Journal.{reply, opened, went}
+use Rattle.frames.specs.Steps.{Part, lineLimit, nothing, spoilt, upperRead, read, readOf, begun}
 use Rattle.frames.specs.Inside.{even}
 use Rattle.frames.specs.declared.reply.Stage.{Stage}
 use Rattle.frames.specs.declared.reply.Stage.the-variants.{First, Later, Ended}
@@ -160,7 +160,8 @@ module _ (p : Part) (c : ℕ) where
   unfolding read
   read-begun = go (p .good && isDigit c) (p .half) (ltb (length (p .bytes)) lineLimit)
     where
-      go : (s t u : Bool) → begun (cond s (cond t (cond u (even (p .bytes ++ (p .upper % 16 * 16 + valueOf c) ∷ [])) (spoilt p)) (upperRead p (valueOf c))) (spoilt p)) ≡ true
+      go : (s t u : Bool)
+          → begun (cond s (cond t (cond u (even (p .bytes ++ (p .upper % 16 * 16 + valueOf c) ∷ [])) (spoilt p)) (upperRead p (valueOf c))) (spoilt p)) ≡ true
       go true true true =
           let one = (p .upper % 16 * 16 + valueOf c) ∷ [] in
           lt-ltb 0 (length (p .bytes ++ one)) (omega (arith, length-append (p .bytes) one))

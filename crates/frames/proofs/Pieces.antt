@@ -1,5 +1,5 @@
 -- Whatever pieces an input comes in, and whatever room each has, all that is written is what `journal` says of the whole. Assumes nothing.
-use Prim.Native.Nat.{ℕ, suc, _-_, _≤_, _<_}
+use Prim.Native.Nat.{ℕ, _-_, _≤_, _<_}
 use mathlib.Core.Path.{_≡_, refl, sym, ap, ap₂, subst, _∙_}
 use mathlib.Core.List.{List, [], _∷_, _++_, append-nil, append-assoc}
 use mathlib.Core.Bool.{Bool, true, false, cond}
@@ -62,7 +62,8 @@ pub record Keeps (p : Place) (text input : List ℕ) (w : Went) : Type 0 where
 keeps-still : (p : Place) (text input : List ℕ) → Stands p text → Keeps p text input (still p)
 keeps-still p text input h = record { so = text; stands = h; same = λ more. refl }
 
-keeps-newline : (p : Place) (text input : List ℕ) (w : Went) → Stands p text → Keeps (behind (replyAt p)) [] input w → Keeps p text (newline ∷ input) (onward (replyAt p .text) w)
+keeps-newline : (p : Place) (text input : List ℕ) (w : Went) → Stands p text → Keeps (behind (replyAt p)) [] input w
+    → Keeps p text (newline ∷ input) (onward (replyAt p .text) w)
 keeps-newline p text input w h k =
     record {
       so = k .so;
@@ -223,6 +224,7 @@ pub any-pieces : (j : Journal) → placeOf j ≡ start → (input : List ℕ) (k
 unfolding journal readText
 any-pieces j new input k written ran out enough r out′ last =
     let all = ran-written ran [] (rw new (record { plainly = plain-none; part = refl })) in
-    ap (λ (t : List ℕ). written ++ t) (step-wrote (finished (placeOf k) (length out)) out r out′ last ∙ finish-all (placeOf k) (length out) enough (all .so) (all .stands))
+    ap (λ (t : List ℕ). written ++ t)
+    (step-wrote (finished (placeOf k) (length out)) out r out′ last ∙ finish-all (placeOf k) (length out) enough (all .so) (all .stands))
     ∙ all .same
     ∙ ap (λ (p : Place). toCome p [] input) new

@@ -9,7 +9,6 @@ use Rattle.laws.proofs.Promise.{one-answer}
 use Rattle.frames.specs.Steps.{Place, Went, start, stepped, finished, isEnded, placeOf, Steps}
 use Rattle.frames.specs.declared.journal.Journal.{Journal}
 use Rattle.frames.specs.declared.journal.Stepped.{Stepped}
-use Rattle.frames.specs.declared.reply.Stage.{Stage}
 
 -- what two answers have in common
 pub record Alike (r q : Stepped) (out out′ : List ℕ) : Type 0 where

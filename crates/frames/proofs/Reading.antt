@@ -100,7 +100,13 @@ one-pair : (buffer input : List ℕ) (n i upper lower : ℕ) → length buffer �
     → upper ≡ valueOf (getD input i 0) → upper ≤ 15 → lower ≡ valueOf (getD input (i + 1) 0) → lower ≤ 15
     → Same (even (take (n + 1) (set buffer n (upper * 16 + lower)))) (drop (i + 2) input) (even (take n buffer)) (drop i input)
 one-pair buffer input n i upper lower long small h u d l e =
-    rw (stored-behind buffer n (upper * 16 + lower) (omega arith), two, u, l, ← two-digits (take n buffer) (getD input i 0) (getD input (i + 1) 0) below above (omega (arith, length-take n buffer)))
+    rw (
+      stored-behind buffer n (upper * 16 + lower) (omega arith),
+      two,
+      u,
+      l,
+      ← two-digits (take n buffer) (getD input i 0) (getD input (i + 1) 0) below above (omega (arith, length-take n buffer)),
+    )
     (same-through
     (one-character (read (even (take n buffer)) (getD input i 0)) input (i + 1) h (digit-no-newline _ above))
     (one-character (even (take n buffer)) input i (omega arith) (digit-no-newline _ below)))
@@ -158,7 +164,8 @@ pairs-first line buffer input at n paired r buffer′ w pairs t =
 module _ (buffer : List ℕ) (line : Line) (long : length buffer ≡ lineLimit) where
   -- a count past the buffer's end says no more than the end
   pub fitted-same : partOf buffer (fittedLine line) ≡ partOf buffer line
-  fitted-same = ap (λ (bs : List ℕ). record { bytes = bs; half = line .half; upper = cond (line .half) (line .upper) 0; good = line .good }) (go (decLt lineLimit (line .count)))
+  fitted-same =
+      ap (λ (bs : List ℕ). record { bytes = bs; half = line .half; upper = cond (line .half) (line .upper) 0; good = line .good }) (go (decLt lineLimit (line .count)))
     where
       go : Dec (lineLimit < line .count) → take (min (line .count) lineLimit) buffer ≡ take (line .count) buffer
       go (yes h) = take-all (min (line .count) lineLimit) buffer (omega (arith, long)) ∙ sym (take-all (line .count) buffer (omega (arith, long)))

@@ -1,13 +1,12 @@
 -- Answer 7 is given to a line exactly where it is out of shape: a line in shape never gets it, and any other changes nothing. Assumes nothing.
-use Prim.Native.Nat.{ℕ, zero, suc, _≤_}
+use Prim.Native.Nat.{ℕ, zero, suc}
 use mathlib.Core.Path.{_≡_, refl, sym, ap, ap₂, _∙_}
 use mathlib.Core.List.{List, [], _∷_}
 use mathlib.Core.Bool.{Bool, true, false, not, cond, _&&_}
 use native.Mathlib.Omega.{arith}
 use lib.Dec.{eqb, leb}
 use lib.ListN.{length, replicate}
-use borrow.Author.Tests.{le-leb, leb-true, leb-false, eq-eqb, eqb-true, eqb-false}
-use Rattle.laws.proofs.Bools.{and-left, and-right, true-not-false}
+use borrow.Author.Tests.{le-leb, leb-true, eq-eqb, eqb-true}
 use Rattle.strobe.specs.Answer.{done, keyFlag, noOperation, notTheLast, cutMac, tooLong, noLevel, badLine, notASession, macUnequal}
 use Rattle.strobe.specs.Duplex.{Sponge, met, same}
 use Rattle.strobe.specs.Flags.{K, flags, has, operation, known, isRecvMac, overLimit, ruleOf}

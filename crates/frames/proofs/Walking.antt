@@ -1,10 +1,10 @@
 -- A step, line by line: to the newline, or to the end of the input. `Going`: what is done and what is left is the whole. Assumes nothing.
-use Prim.Native.Nat.{ℕ, suc, _+_, _-_, _≤_, _<_}
+use Prim.Native.Nat.{ℕ, _+_, _-_, _≤_, _<_}
 use mathlib.Core.Path.{_≡_, refl, sym, ap, ap₂, _∙_}
 use mathlib.Core.List.{List, [], _∷_, _++_, append-nil, append-assoc}
 use mathlib.Core.Bool.{Bool, true, false, cond}
 use native.Mathlib.Omega.{arith}
-use lib.Dec.{eqb, ltb}
+use lib.Dec.{eqb}
 use lib.ListN.{length, drop, length-append, length-drop, drop-of-length-le}
 use borrow.Author.Tests.{le-ltb, lt-ltb}
 use Rattle.laws.proofs.Bools.{true-not-false}
@@ -62,9 +62,12 @@ past-none (c ∷ input) h = go (eqb c newline) h (past-none input)
 
 module _ (room : ℕ) (enough : answerLimit ≤ room) where
   first-step : (p : Place) (c : ℕ) (input : List ℕ) → stepped p (c ∷ input) room
-      ≡ cond (eqb c newline) (onward (replyAt p .text) (stepped (behind (replyAt p)) input (room - length (replyAt p .text)))) (onward [] (stepped (reading p c) input room))
+      ≡ cond (eqb c newline) (onward (replyAt p .text) (stepped (behind (replyAt p)) input (room - length (replyAt p .text))))
+      (onward [] (stepped (reading p c) input room))
   unfolding stepped
-  first-step p c input = ap (λ (t : Bool). cond t (still p) (cond (eqb c newline) (onward (replyAt p .text) (stepped (behind (replyAt p)) input (room - length (replyAt p .text)))) (onward [] (stepped (reading p c) input room)))) (le-ltb room answerLimit enough)
+  first-step p c input =
+      let ended = onward (replyAt p .text) (stepped (behind (replyAt p)) input (room - length (replyAt p .text))) in
+      ap (λ (t : Bool). cond t (still p) (cond (eqb c newline) ended (onward [] (stepped (reading p c) input room)))) (le-ltb room answerLimit enough)
 
   -- the line's text and what is behind it
   abbrev lineGone : Place → List ℕ → Went
@@ -77,7 +80,8 @@ module _ (room : ℕ) (enough : answerLimit ≤ room) where
   line-ended p (c ∷ input) h = first-step p c input ∙ go (eqb c newline) h (line-ended (reading p c) input)
     where
       go : (t : Bool) → cond t true (ends input) ≡ true
-          → (ends input ≡ true → stepped (reading p c) input room ≡ gone (length input - length (past input)) (replyAt (readOn (reading p c) input) .text) (lineGone (readOn (reading p c) input) (past input)))
+          → (ends input ≡ true → stepped (reading p c) input room
+          ≡ gone (length input - length (past input)) (replyAt (readOn (reading p c) input) .text) (lineGone (readOn (reading p c) input) (past input)))
           → cond t (onward (replyAt p .text) (lineGone p input)) (onward [] (stepped (reading p c) input room))
           ≡ (let q = within p (cond t (p .part) (readAll (read (p .part) c) input)) in
           gone (length (c ∷ input) - length (cond t input (past input))) (replyAt q .text) (lineGone q (cond t input (past input))))
@@ -159,7 +163,8 @@ module _ (p₀ : Place) (input out₀ : List ℕ) (p : Place) (out : List ℕ) (
         whole =
             g .whole
             ∙ ap (gone taken (g .done)) (line-ended (length out₀ - put) enough p line e)
-            ∙ gone-gone taken (length line - length (past line)) (g .done) (replyAt (readOn p line) .text) (lineGone (length out₀ - put) enough (readOn p line) (past line))
+            ∙ gone-gone taken (length line - length (past line)) (g .done) (replyAt (readOn p line) .text)
+            (lineGone (length out₀ - put) enough (readOn p line) (past line))
             ∙ ap (λ (n : ℕ). gone n (g .done ++ replyAt (readOn p line) .text) (lineGone (length out₀ - put) enough (readOn p line) (past line))) next
             ∙ ap₂ (λ (x : Place) (l : List ℕ). gone at (g .done ++ replyAt x .text) (lineGone (length out₀ - put) enough x l)) (sym k) (sym r)
             ∙ ap (λ (n : ℕ). gone at (g .done ++ text) (stepped (behind (replyAt q)) (drop at input) n)) (omega (arith, s));
@@ -194,7 +199,8 @@ module _ (p₀ : Place) (input out₀ : List ℕ) (p : Place) (out : List ℕ) (
       full : (l : List ℕ) → stepped p l (length out₀ - put) ≡ still p
       full [] = refl
       full (c ∷ l) = ap (λ (t : Bool). cond t (still p) (cond (eqb c newline)
-          (onward (replyAt p .text) (stepped (behind (replyAt p)) l (length out₀ - put - length (replyAt p .text)))) (onward [] (stepped (reading p c) l (length out₀ - put)))))
+          (onward (replyAt p .text) (stepped (behind (replyAt p)) l (length out₀ - put - length (replyAt p .text))))
+          (onward [] (stepped (reading p c) l (length out₀ - put)))))
           (lt-ltb (length out₀ - put) answerLimit h)
 
 -- ---- what the code gives

@@ -5,7 +5,7 @@ use Prim.Native.Nat.{ℕ, _+_, _-_, _*_, _/_, _%_, _≤_, _<_}
 use native.Mathlib.Omega.{arith}
 use native.Mathlib.Numerals.{add-one}
 use lib.ListN.{length, take, drop, set, getD, length-append, length-take, length-drop, length-set, take-append-drop, drop-of-length-le}
-use lib.Seq.{length-take-le, take-add, take-at, drop-at, drop-drop, drop-cons, set-split}
+use lib.Seq.{take-at, drop-at, drop-drop, drop-cons, set-split}
 use Rattle.hex.specs.Digits.{digitOf}
 use Rattle.strobe.specs.declared.session.Session.{Session}
 use Rattle.frames.specs.Hexadecimal.{encode}

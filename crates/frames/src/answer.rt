@@ -1,10 +1,13 @@
 // An answer as a line of text.
 ghost use mathlib.Core.Path.{_≡_};
 ghost use Prim.Native.Nat.{_+_, _*_, _≤_};
-ghost use lib.ListN.{length, take, drop};
+ghost use lib.ListN.{length};
 ghost use Rattle.frames.specs.Hexadecimal.{encode};
 ghost use Rattle.frames.specs.Journal.{answerLine};
 ghost use Rattle.frames.specs.Inside.{written};
+
+// The longest answer: two digits, 4,096 bytes in hexadecimal and a newline.
+pub const ANSWER_LIMIT: usize = 8195;
 
 // The digits of the bytes, from out's index `at` on. Gives the index behind them.
 fn write_hexadecimal(bytes: &[u8], out: &mut [u8], at: usize) -> usize

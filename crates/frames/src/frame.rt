@@ -20,6 +20,12 @@ use strobe::Session;
 // The journal's own answer, to a line that is out of shape.
 const BAD_LINE: u8 = 7;
 
+// A payload, and the count of a prf or a send_mac, are at most so long.
+const LIMIT: usize = 4096;
+
+// A first line has a level byte before its name.
+const FIRST_LIMIT: usize = 4097;
+
 // What comes of a line.
 pub struct Called {
     pub session: Session,
@@ -75,7 +81,7 @@ pub fn open(session: Session, line: Line, buffer: &[u8]) -> Called
     if count == 0 {
         return refused(session);
     }
-    if count > 4097 {
+    if count > FIRST_LIMIT {
         return refused(session);
     }
     unshown(Session::create(&buffer[1..count], level_of(buffer[0])))
@@ -170,7 +176,7 @@ fn draw(session: Session, flags: Flags, more: bool, buffer: &mut [u8], count: us
         return refused(session);
     }
     let n = count_of(buffer);
-    if n > 4096 {
+    if n > LIMIT {
         return refused(session);
     }
     clear(buffer, n);

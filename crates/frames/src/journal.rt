@@ -2,7 +2,9 @@
 ghost use mathlib.Core.Path.{_≡_};
 ghost use lib.ListN.{length};
 ghost use Rattle.frames.specs.Steps.{start, stepped, finished, placeOf, isEnded, Steps};
+use crate::answer;
 use crate::line;
+use crate::line::LINE_LIMIT;
 use crate::line::Line;
 use crate::reply::Stage;
 use crate::walk;
@@ -14,7 +16,7 @@ pub struct Journal {
     stage: Stage,
     session: Session,
     line: Line,
-    buffer: [u8; 4098],
+    buffer: [u8; LINE_LIMIT],
 }
 
 pub struct Stepped {
@@ -26,8 +28,8 @@ pub struct Stepped {
 }
 
 impl Journal {
-    // The longest answer: where no more than this is left of a buffer, nothing is written.
-    pub const ANSWER_LIMIT: usize = 8195;
+    // The longest answer. A step stops where less than this is left of its buffer, so a shorter buffer gets none.
+    pub const ANSWER_LIMIT: usize = answer::ANSWER_LIMIT;
 
     pub fn new() -> Journal
         ensures { λ r. ⌜ placeOf r ≡ start ⌝ }
@@ -36,7 +38,7 @@ impl Journal {
             stage: Stage::First,
             session: Session::blank(),
             line: line::empty(),
-            buffer: [0u8; 4098],
+            buffer: [0u8; LINE_LIMIT],
         }
     }
 

@@ -1,9 +1,12 @@
 // A line as it comes: its digits go two by two into a buffer.
 ghost use mathlib.Core.Path.{_≡_};
 ghost use Prim.Native.Nat.{_≤_, min};
-ghost use lib.ListN.{length, drop};
+ghost use lib.ListN.{length};
 ghost use Rattle.frames.specs.Steps.{lineLimit, partOf, read};
 ghost use Rattle.frames.specs.Inside.{emptyLine, spoiltLine, begunLine, fittedLine, wholeLine, Reads, ReadsPairs, Takes};
+
+// The bytes of the longest line: a flag byte, a `more` byte and a payload.
+pub const LINE_LIMIT: usize = 4098;
 
 // How much of a line is in the buffer.
 pub struct Line {
@@ -59,11 +62,11 @@ pub fn begun(line: Line) -> bool
 pub fn fitted(line: Line) -> Line
     ensures { λ r. ⌜ r ≡ fittedLine line ⌝ }
 {
-    if line.count <= 4098 {
+    if line.count <= LINE_LIMIT {
         return line;
     }
     Line {
-        count: 4098,
+        count: LINE_LIMIT,
         half: line.half,
         upper: line.upper,
         good: line.good,
@@ -98,7 +101,7 @@ fn read(line: Line, buffer: &mut [u8], character: u8) -> Line
         };
     }
     let count = line.count;
-    if count == 4098 {
+    if count == LINE_LIMIT {
         return spoilt(line);
     }
     buffer[count] = line.upper % 16 * 16 + value;
@@ -121,7 +124,7 @@ fn read_pairs(buffer: &mut [u8], count: usize, input: &[u8], at: usize) -> usize
     requires { ⌜ (count ≤ lineLimit) × (length (now buffer) ≡ lineLimit) × (at ≤ length (now input)) ⌝ }
     ensures { λ r. ⌜ ReadsPairs (now (buffer .entry)) count (now (input .entry)) at r (now (buffer .exit)) ⌝ }
 {
-    let most = least((input.len() - at) / 2, 4098 - count);
+    let most = least((input.len() - at) / 2, LINE_LIMIT - count);
     let mut n: usize = 0;
     while n < most {
         let upper = hex::value(input[at + 2 * n]);

@@ -4,6 +4,7 @@ ghost use Prim.Native.Nat.{_≤_};
 ghost use lib.ListN.{length};
 ghost use Rattle.frames.specs.Steps.{lineLimit, stepped};
 ghost use Rattle.frames.specs.Inside.{placeIn, Walks};
+use crate::answer::ANSWER_LIMIT;
 use crate::line;
 use crate::line::Line;
 use crate::reply;
@@ -30,7 +31,7 @@ pub fn walk(start: Walked, buffer: &mut [u8], input: &[u8], out: &mut [u8]) -> W
     let mut line = start.line;
     let mut taken: usize = 0;
     let mut put: usize = 0;
-    while taken < input.len() && 8195 <= out.len() - put {
+    while taken < input.len() && ANSWER_LIMIT <= out.len() - put {
         let met = line::take(line, buffer, input, taken);
         let whole = met.line;
         taken = met.at;

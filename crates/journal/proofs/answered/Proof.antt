@@ -1,5 +1,5 @@
 -- `answered` is safe and ends: each step has room for an answer, so it takes at least a byte. Assumes nothing.
-use Prim.Native.Nat.{ℕ, _+_, _-_, _≤_, _<_}
+use Prim.Native.Nat.{_+_, _-_, _≤_, _<_}
 use mathlib.Core.Path.{_≡_, refl, sym, _∙_}
 use native.Mathlib.Omega.{arith}
 use lib.ListN.{length, take, drop, length-take, length-drop}
@@ -20,7 +20,9 @@ loop-holds c = (omega arith, refl)
 
 -- a step moves on within the input
 moves : (k : tie.After-struct-known Inv-loop μ-loop)
-    → (k .before .before .before .before .before .before .before .before .loop .at + k .before .before .before .before .step .result .taken ≤ length (k .before .before .before .before .before .before .before .before .before .before .before .args .input .now)) × (0 < k .before .before .before .before .step .result .taken)
+    → (k .before .before .before .before .before .before .before .before .loop .at + k .before .before .before .before .step .result .taken
+    ≤ length (k .before .before .before .before .before .before .before .before .before .before .before .args .input .now))
+    × (0 < k .before .before .before .before .step .result .taken)
 moves k =
     let s = k .before .before .before .before .step in
     let l = k .before .before .before .before .before .before .before .before .loop in
@@ -28,7 +30,10 @@ moves k =
     let part = take (length input - l .at) (drop (l .at) input) in
     let size : length part ≡ length input - l .at = omega (arith, length-take (length input - l .at) (drop (l .at) input), length-drop (l .at) input) in
     let most : s .result .taken ≤ length part = taken-fits _ _ _ _ _ (s .ensures) in
-    let some : 0 < s .result .taken = some-taken _ part (l .out) _ _ (s .ensures) (omega (arith, l .inv .1, k .before .before .before .before .before .before .before .before .before .before .before .pre)) (omega (arith, size, k .before .before .before .before .before .before .before .loop-test .taken)) in
+    let some : 0 < s .result .taken =
+    some-taken _ part (l .out) _ _ (s .ensures)
+    (omega (arith, l .inv .1, k .before .before .before .before .before .before .before .before .before .before .before .pre))
+    (omega (arith, size, k .before .before .before .before .before .before .before .loop-test .taken)) in
     (omega (arith, most, size, l .inv .0), some)
 
 add-at : tie.Need-add-at Inv-loop μ-loop

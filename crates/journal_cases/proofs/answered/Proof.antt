@@ -15,7 +15,9 @@ Inv-loop input out₀ behind₀ at₀ out behind at = (at ≤ length input) × (
 abbrev μ-loop : tie.MeasureT-loop
 μ-loop input out₀ behind₀ at₀ out behind at = length input - at
 
-within : (k : tie.After-struct-known Inv-loop μ-loop) → k .before .before .before .before .before .before .before .before .loop .at + k .before .before .before .before .step .result .taken ≤ length (k .before .before .before .before .before .before .before .before .before .before .before .args .input .now)
+within : (k : tie.After-struct-known Inv-loop μ-loop)
+    → k .before .before .before .before .before .before .before .before .loop .at + k .before .before .before .before .step .result .taken
+    ≤ length (k .before .before .before .before .before .before .before .before .before .before .before .args .input .now)
 within k =
     let s = k .before .before .before .before .step in
     let l = k .before .before .before .before .before .before .before .before .loop in

@@ -1,13 +1,11 @@
 -- `walk`, line by line. The invariant `Going`: what is done and what is left is the whole. Assumes nothing.
-use Prim.Native.Nat.{ℕ, _-_, _≤_, _<_}
+use Prim.Native.Nat.{_-_, _≤_}
 use mathlib.Core.Path.{_≡_, refl, _∙_}
-use mathlib.Core.Bool.{true, false}
 use native.Mathlib.Omega.{arith}
 use lib.ListN.{length}
 use borrow.Author.Needs.{needs}
 use borrow.Author.Tests.{leb-true, leb-false, not-true, not-false}
-use Rattle.frames.specs.Steps.{Place, lineLimit, answerLimit, stepped, partOf}
-use Rattle.frames.specs.Inside.{Walks}
+use Rattle.frames.specs.Steps.{lineLimit, answerLimit, partOf}
 use Rattle.frames.proofs.Walking.{Going, going-start, walks-open, walks-on, walk-moves, walks-end, walks-full}
 use Rattle.frames.proofs.walk.walk.Statement.{statement}
 use Rattle.frames.proofs.walk.walk.Tie as tie
@@ -28,7 +26,8 @@ loop-holds c = (going-start _ _ _, omega arith, omega arith, refl)
 
 -- the loop's second test, of the buffer as it came
 enough : (k : tie.After-struct-known Inv-loop μ-loop)
-    → answerLimit ≤ length (k .before .before .before .before .before .before .before .before .before .before .before .before .before .before .args .out .now) - k .before .before .before .before .before .before .before .before .loop .put
+    → answerLimit
+    ≤ length (k .before .before .before .before .before .before .before .before .before .before .before .before .before .before .args .out .now) - k .before .before .before .before .before .before .before .before .loop .put
 enough k =
     let l = k .before .before .before .before .before .before .before .before .loop in
     omega (arith, l .inv .3, leb-true answerLimit (length (l .out) - l .put) (k .before .before .before .before .before .before .if1 .taken))
@@ -45,7 +44,9 @@ loop-less c =
     let k = c .before .before .before .before .before .before .before .before .before .before in
     let l = k .before .before .before .before .before .before .before .before .loop in
     let met = k .before .before .before .before .take in
-    let moves = walk-moves _ _ _ _ _ (l .line) (l .buffer) _ (l .taken) (l .put) (l .inv .0) (enough k) (met .result) _ (met .ensures) (not-false (met .result .ended) (c .before .before .before .before .before .before .before .before .before .if2 .left)) in
+    let moves =
+    walk-moves _ _ _ _ _ (l .line) (l .buffer) _ (l .taken) (l .put) (l .inv .0) (enough k) (met .result) _ (met .ensures)
+    (not-false (met .result .ended) (c .before .before .before .before .before .before .before .before .before .if2 .left)) in
     omega (arith, moves, met .ensures .within)
 
 loop-again : tie.Need-loop-again Inv-loop μ-loop
@@ -57,7 +58,8 @@ loop-again c =
     let long = r .kept .1 .1 .1 .1 .0 ∙ l .inv .3 in
     let ended = not-false (met .result .ended) (c .before .before .before .before .before .before .before .before .before .if2 .left) in (
       rw (c .empty .ensures)
-          (walks-on _ _ _ _ _ (l .line) (l .buffer) (l .out) (l .taken) (l .put) (l .inv .0) (enough k) (met .result) _ (met .ensures) ended (r .result) (r .last .1 .1 .1 .0) (r .last .1 .1 .1 .1 .0)
+          (walks-on _ _ _ _ _ (l .line) (l .buffer) (l .out) (l .taken) (l .put) (l .inv .0) (enough k) (met .result) _ (met .ensures) ended
+          (r .result) (r .last .1 .1 .1 .0) (r .last .1 .1 .1 .1 .0)
           long
           (r .ensures)),
       rw (c .empty .ensures) (omega arith),

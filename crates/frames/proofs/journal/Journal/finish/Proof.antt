@@ -13,14 +13,16 @@ returns c =
     let b = c .before .before .before .before .before .before in
     let z = c .before .before .before .before .before .before .before .before .args in
     let long : length (z .self .buffer) ≡ lineLimit = search needs in
-    rw (finished-line (placeOf (z .self)) (length (z .out .now)) (sym (begun-same (z .self .buffer) (z .self .line) long) ∙ sym (b .begun .ensures) ∙ c .before .before .before .before .before .if1 .taken))
+    rw (finished-line (placeOf (z .self)) (length (z .out .now))
+    (sym (begun-same (z .self .buffer) (z .self .line) long) ∙ sym (b .begun .ensures) ∙ c .before .before .before .before .before .if1 .taken))
     (c .before .before .step .ensures)
 
 returns-2 : tie.Need-returns-2
 returns-2 c =
     let z = c .before .before .before .args in
     let long : length (z .self .buffer) ≡ lineLimit = search needs in
-    rw (finished-none (placeOf (z .self)) (length (z .out .now)) (sym (begun-same (z .self .buffer) (z .self .line) long) ∙ sym (c .before .begun .ensures) ∙ c .if1 .left))
+    rw (finished-none (placeOf (z .self)) (length (z .out .now))
+    (sym (begun-same (z .self .buffer) (z .self .line) long) ∙ sym (c .before .begun .ensures) ∙ c .if1 .left))
     (record { place = refl; taken = refl; put = refl; lent = refl })
 
 pub finish-spec : {M : Type 1} → statement M

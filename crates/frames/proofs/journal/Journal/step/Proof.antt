@@ -1,13 +1,10 @@
 -- `step` is a walk over the input with a count that fits the buffer. Assumes nothing.
-use mathlib.Core.List.{List}
 use mathlib.Core.Path.{_≡_, ap, subst, _∙_}
-use Prim.Native.Nat.{ℕ}
 use native.Mathlib.Omega.{arith}
 use lib.ListN.{length}
 use borrow.Author.Needs.{needs}
-use Rattle.frames.specs.Steps.{Part, Place, lineLimit, stepped, partOf}
+use Rattle.frames.specs.Steps.{Part, lineLimit, stepped, partOf}
 use Rattle.frames.specs.Inside.{Walks}
-use Rattle.frames.specs.declared.line.Line.{Line}
 use Rattle.frames.proofs.Reading.{fitted-same}
 use Rattle.frames.proofs.Walking.{walk-steps}
 use Rattle.frames.proofs.journal.Journal.step.Statement.{statement}
@@ -24,7 +21,8 @@ returns c =
     let long : length (z .self .buffer) ≡ lineLimit = search needs in
     walk-steps _ _ _ _ _
     (subst
-    (λ (q : Part). Walks (stepped (record { stage = z .self .stage; session = z .self .session; part = q }) (z .input .now) (length (z .out .now))) (z .out .now) (w .result) (w .last .1 .0) (w .last .1 .1 .1 .0))
+    (λ (q : Part). Walks (stepped (record { stage = z .self .stage; session = z .self .session; part = q }) (z .input .now) (length (z .out .now)))
+    (z .out .now) (w .result) (w .last .1 .0) (w .last .1 .1 .1 .0))
     (ap (partOf (z .self .buffer)) (f .ensures) ∙ fitted-same (z .self .buffer) (z .self .line) long) (w .ensures))
 
 pub step-spec : {M : Type 1} → statement M
