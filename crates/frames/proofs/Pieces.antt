@@ -11,7 +11,12 @@ use borrow.Author.Tests.{le-ltb, eqb-true}
 use Rattle.frames.specs.Hexadecimal.{decode}
 use Rattle.frames.specs.Lines.{newline, lines}
 use Rattle.frames.specs.Journal.{Reply, reply, replies, journal}
-use Rattle.frames.specs.Steps.{Part, Place, Went, nothing, read, begun, start, replyAt, behind, reading, answerLimit, still, onward, stepped, finished, placeOf, Steps}
+use Rattle.frames.specs.Steps.{Part, Place, Went, nothing, read, begun, start, replyAt, behind, reading, answerLimit, still, onward, stepped, finished, isEnded, placeOf, Steps}
+use Rattle.frames.specs.Runs.{Ran, ready, piece}
+use Rattle.frames.specs.declared.reply.Stage.{Stage}
+use Rattle.frames.specs.declared.reply.Stage.the-variants.{First, Later, Ended}
+use Rattle.strobe.specs.declared.session.Session.{Session}
+use Rattle.laws.proofs.Bools.{true-not-false}
 use Rattle.frames.specs.declared.journal.Journal.{Journal}
 use Rattle.frames.specs.declared.journal.Stepped.{Stepped}
 use Rattle.frames.proofs.Lines.{plain, plain-none, plain-more, lines-newline, lines-last}
@@ -173,25 +178,26 @@ module _ (p : Place) (room : ℕ) (enough : answerLimit ≤ room) where
       ∙ sym (ap (λ (t : List ℕ). replies (p .stage) (p .session) (lines t)) (append-nil (c ∷ text))
       ∙ ap (replies (p .stage) (p .session)) (lines-last c text (h .plainly)))
 
--- ---- the code: any pieces of an input, each with a buffer to write into, and what each step wrote
-
--- from one journal to the next: what was lent, what came back, and the rest of the piece that was not taken goes on in front
-pub data Ran : Journal → List ℕ → Journal → List ℕ → Type 0 where
-  ready : (j : Journal) → Ran j [] j []
-  piece : (j : Journal) (input rest out out′ : List ℕ) (r : Stepped)
-      → Steps (stepped (placeOf j) input (length out)) out r out′
-      → (k : Journal) (written : List ℕ) → Ran (r .journal) (drop (r .taken) input ++ rest) k written
-      → Ran j (input ++ rest) k (take (r .put) out′ ++ written)
+-- ---- the code's run
 
 -- what a step wrote is at the start of its buffer
 step-wrote : (w : Went) (out : List ℕ) (r : Stepped) (out′ : List ℕ) → Steps w out r out′ → take (r .put) out′ ≡ w .output
 step-wrote w out r out′ h =
     ap (take (r .put)) (h .lent) ∙ take-at (w .output) (drop (length (w .output)) out) (r .put) (sym (h .put))
 
-pub record Written (k : Journal) (written : List ℕ) (p : Place) (text input : List ℕ) : Type 0 where
-  pub so : List ℕ
-  pub stands : Stands (placeOf k) so
-  pub same : written ++ toCome (placeOf k) so [] ≡ toCome p text input
+-- nothing comes after the end
+ended-silent : (stage : Stage) (s : Session) → isEnded stage ≡ true → (ls : List (List ℕ)) → replies stage s ls ≡ []
+unfolding replies
+ended-silent First s h ls = absurd (true-not-false h refl)
+ended-silent Later s h ls = absurd (true-not-false h refl)
+ended-silent Ended s h [] = refl
+ended-silent Ended s h (l ∷ ls) = ended-silent Ended s h ls
+
+-- what was written, and what is still to come, is what was to come at first, whatever more follows
+record Written (k : Journal) (written : List ℕ) (p : Place) (text input : List ℕ) : Type 0 where
+  so : List ℕ
+  stands : Stands (placeOf k) so
+  same : (more : List ℕ) → written ++ toCome (placeOf k) so more ≡ toCome p text (input ++ more)
 
 -- one piece in front of what was written
 piece-written : (w : Went) (out : List ℕ) (r : Stepped) (out′ : List ℕ) → Steps w out r out′
@@ -202,29 +208,45 @@ piece-written w out r out′ s p text input step rest k written next =
     record {
       so = next .so;
       stands = next .stands;
-      same =
-          append-assoc (take (r .put) out′) written (toCome (placeOf k) (next .so) [])
-          ∙ ap₂ (λ (a b : List ℕ). a ++ b) (step-wrote w out r out′ s) (next .same)
-          ∙ ap₂ (λ (q : Place) (n : ℕ). w .output ++ toCome q (step .so) (drop n input ++ rest)) (s .place) (s .taken)
-          ∙ step .same rest;
+      same = λ more.
+          append-assoc (take (r .put) out′) written (toCome (placeOf k) (next .so) more)
+          ∙ ap₂ (λ (a b : List ℕ). a ++ b) (step-wrote w out r out′ s) (next .same more)
+          ∙ ap₂ (λ (q : Place) (n : ℕ). w .output ++ toCome q (step .so) (drop n input ++ rest ++ more)) (s .place) (s .taken)
+          ∙ ap (λ (l : List ℕ). w .output ++ toCome (w .place) (step .so) l) (append-assoc (drop (w .taken) input) rest more)
+          ∙ step .same (rest ++ more)
+          ∙ ap (toCome p text) (sym (append-assoc input rest more));
     }
 
 ran-written : {j : Journal} {input : List ℕ} {k : Journal} {written : List ℕ} → Ran j input k written
     → (text : List ℕ) → Stands (placeOf j) text → Written k written (placeOf j) text input
-ran-written (ready j) text h = record { so = text; stands = h; same = refl }
+ran-written (ready j) text h = record { so = text; stands = h; same = λ more. refl }
 ran-written (piece j input rest out out′ r s k written ran) text h =
     let step = step-keeps (placeOf j) text input (length out) h in
     piece-written (stepped (placeOf j) input (length out)) out r out′ s (placeOf j) text input step rest k written
     (ran-written ran (step .so) (rw (s .place) (step .stands)))
 
--- every way of handing an input over, and of finishing it, writes the journal's output
-pub any-pieces : (j : Journal) → placeOf j ≡ start → (input : List ℕ) (k : Journal) (written : List ℕ) → Ran j input k written
-    → (out : List ℕ) → answerLimit ≤ length out → (r : Stepped) (out′ : List ℕ) → Steps (finished (placeOf k) (length out)) out r out′
-    → written ++ take (r .put) out′ ≡ journal input
-unfolding journal readText
-any-pieces j new input k written ran out enough r out′ last =
-    let all = ran-written ran [] (rw new (record { plainly = plain-none; part = refl })) in
-    ap (λ (t : List ℕ). written ++ t)
-    (step-wrote (finished (placeOf k) (length out)) out r out′ last ∙ finish-all (placeOf k) (length out) enough (all .so) (all .stands))
-    ∙ all .same
-    ∙ ap (λ (p : Place). toCome p [] input) new
+module _ (j : Journal) (new : placeOf j ≡ start) (input : List ℕ) (k : Journal) (written : List ℕ) (ran : Ran j input k written) where
+  from-start : Written k written (placeOf j) [] input
+  unfolding readText
+  from-start = ran-written ran [] (rw new (record { plainly = plain-none; part = refl }))
+
+  -- every way of handing an input over, and of finishing it, writes the journal's output
+  pub any-pieces : (out : List ℕ) → answerLimit ≤ length out → (r : Stepped) (out′ : List ℕ) → Steps (finished (placeOf k) (length out)) out r out′
+      → written ++ take (r .put) out′ ≡ journal input
+  unfolding journal
+  any-pieces out enough r out′ last =
+      let all = from-start in
+      ap (λ (t : List ℕ). written ++ t)
+      (step-wrote (finished (placeOf k) (length out)) out r out′ last ∙ finish-all (placeOf k) (length out) enough (all .so) (all .stands))
+      ∙ all .same []
+      ∙ ap₂ (λ (p : Place) (l : List ℕ). toCome p [] l) new (append-nil input)
+
+  -- a run that has ended has written all, so that no more need be read
+  pub ended-early : isEnded (k .stage) ≡ true → (more : List ℕ) → written ≡ journal (input ++ more)
+  unfolding journal
+  ended-early h more =
+      let all = from-start in
+      sym (append-nil written)
+      ∙ ap (λ (t : List ℕ). written ++ t) (sym (ended-silent (k .stage) (k .session) h (lines (all .so ++ more))))
+      ∙ all .same more
+      ∙ ap (λ (p : Place). toCome p [] (input ++ more)) new

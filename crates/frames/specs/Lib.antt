@@ -5,3 +5,4 @@ pub mod Journal
 pub mod Steps
 pub mod Inside
 pub mod Shape
+pub mod Runs
