@@ -9,7 +9,8 @@ import sys
 
 sys.dont_write_bytecode = True  # a run leaves no file beside this one
 from strobe import (
-    DONE, M, NO_LEVEL, PRF, RATCHET, RECV_ENC, SEND_ENC, SEND_MAC, fresh)
+    DONE, M, NO_LEVEL, PRF, RATCHET, RATCHET_LIMIT, RECV_ENC, SEND_ENC,
+    SEND_MAC, fresh)
 
 # The journal's own answer, to a line that is out of shape.
 BAD_LINE = 7
@@ -71,7 +72,7 @@ def buffer(plain, payload):
     count = int(payload, 16) if len(payload) == 8 else None
     if count is None or plain != RATCHET and count > LIMIT:
         return None
-    return bytes(min(count, 65537))
+    return bytes(min(count, RATCHET_LIMIT + 1))
 
 
 def answered(session, line):

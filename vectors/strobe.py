@@ -30,6 +30,10 @@ PLAIN = (AD, RATCHET, KEY, PRF, SEND_CLR, RECV_CLR, SEND_MAC, RECV_MAC,
          SEND_ENC, RECV_ENC)
 OPERATIONS = PLAIN + tuple(M | flags for flags in PLAIN)
 
+# The limits of one call.
+RATCHET_LIMIT = 65536
+MAC_LIMIT = 64
+
 # The answers that a call or a creation gives.
 (DONE, KEY_FLAG, NO_OPERATION, NOT_THE_LAST, CUT_MAC, TOO_LONG,
  NO_LEVEL) = range(7)
@@ -174,8 +178,8 @@ class Strobe:
             (flags not in OPERATIONS, NO_OPERATION),
             (more and plain == RECV_MAC, CUT_MAC),
             (more and flags != self.cur_flags, NOT_THE_LAST),
-            (plain == RATCHET and n > 65536, TOO_LONG),
-            (plain == RECV_MAC and n > 64, TOO_LONG),
+            (plain == RATCHET and n > RATCHET_LIMIT, TOO_LONG),
+            (plain == RECV_MAC and n > MAC_LIMIT, TOO_LONG),
         ]
         return next((answer for failed, answer in tests if failed), DONE)
 

@@ -25,11 +25,11 @@ plain-more (b ∷ text) c h e =
     ∙ ap (λ (t : Bool). t && true) (and-left (not (eqb b newline)) (plain text) h)
 
 module _ (c : ℕ) (text : List ℕ) (h : plain (c ∷ text) ≡ true) where
-  pub none-first : eqb c newline ≡ false
+  none-first : eqb c newline ≡ false
   unfolding plain
   none-first = not-true (eqb c newline) (and-left (not (eqb c newline)) (plain text) h)
 
-  pub plain-rest : plain text ≡ true
+  plain-rest : plain text ≡ true
   unfolding plain
   plain-rest = and-right (not (eqb c newline)) (plain text) h
 

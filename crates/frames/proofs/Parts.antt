@@ -14,7 +14,7 @@ use Rattle.strobe.specs.Session.{given, created}
 use Rattle.strobe.specs.declared.session.Session.{Session}
 use Rattle.frames.specs.Hexadecimal.{Read, misshapen, bytes, decode, isDigit, byteOf, ahead}
 use Rattle.frames.specs.Frames.{limit, levelOf, bufferOf, opening, refused, calling, framed}
-use Rattle.frames.specs.Journal.{reply, opened, went}
+use Rattle.frames.specs.Journal.{reply, firstReply, laterReply}
 use Rattle.frames.specs.Steps.{Part, lineLimit, nothing, spoilt, upperRead, read, readOf, begun}
 use Rattle.frames.specs.Inside.{even}
 use Rattle.frames.specs.declared.reply.Stage.{Stage}
@@ -33,7 +33,7 @@ read-behind p [] c = refl
 read-behind p (b ∷ text) c = read-behind (read p b) text c
 
 -- once spoilt, a line stays so
-pub spoilt-stays : (p : Part) (text : List ℕ) → p .good ≡ false → readOf (readText p text) ≡ misshapen
+spoilt-stays : (p : Part) (text : List ℕ) → p .good ≡ false → readOf (readText p text) ≡ misshapen
 unfolding readText
 spoilt-stays p [] h = ap (λ (t : Bool). cond (t && not (p .half)) (bytes (p .bytes)) misshapen) h
 spoilt-stays p (c ∷ text) h = ap (λ (q : Part). readOf (readText q text)) (bad-stays p c h) ∙ spoilt-stays p text h
@@ -137,8 +137,8 @@ module _ (s : Session) where
       ∙ ap (λ (t : Bool). cond t called (refused s)) (and-false (leb more 1))
 
   reply-long : (stage : Stage) (cs : List ℕ) → lineLimit < length cs → reply stage s (bytes cs) ≡ reply stage s misshapen
-  reply-long First cs h = ap opened (opening-long cs h)
-  reply-long Later cs h = ap went (framed-long cs h)
+  reply-long First cs h = ap firstReply (opening-long cs h)
+  reply-long Later cs h = ap laterReply (framed-long cs h)
   reply-long Ended cs h = refl
 
 pub reply-same : (stage : Stage) (s : Session) (text : List ℕ) → reply stage s (readOf (readText nothing text)) ≡ reply stage s (decode text)

@@ -5,7 +5,7 @@ use mathlib.Core.List.{List, [], _∷_, _++_, append-nil, append-assoc}
 use mathlib.Core.Bool.{Bool, true, false, cond}
 use native.Mathlib.Omega.{arith}
 use lib.Dec.{eqb, ltb}
-use lib.ListN.{length, take, drop, length-append}
+use lib.ListN.{length, take, drop, length-append, take-append-drop}
 use lib.Seq.{take-at}
 use borrow.Author.Tests.{le-ltb, eqb-true}
 use Rattle.frames.specs.Hexadecimal.{decode}
@@ -25,12 +25,12 @@ use Rattle.frames.proofs.Parts.{readText, read-behind, reply-same, read
 -- ---- a place within a line
 
 -- the text of the line so far
-pub record Stands (p : Place) (text : List ℕ) : Type 0 where
+record Stands (p : Place) (text : List ℕ) : Type 0 where
   pub plainly : plain text ≡ true
   pub part : p .part ≡ readText nothing text
 
 -- what is still to be written, of what is still to come
-abbrev pub toCome : Place → List ℕ → List ℕ → List ℕ
+abbrev toCome : Place → List ℕ → List ℕ → List ℕ
 toCome p text input = replies (p .stage) (p .session) (lines (text ++ input))
 
 reply-here : (p : Place) (text : List ℕ) → Stands p text → replyAt p ≡ reply (p .stage) (p .session) (decode text)
@@ -58,36 +58,58 @@ stands-more p text c h e =
 
 -- ---- a step
 
+-- the text behind the last newline
+unfoldable pub lineSoFar : List ℕ → List ℕ → List ℕ
+lineSoFar text [] = text
+lineSoFar text (c ∷ input) = cond (eqb c newline) (lineSoFar [] input) (lineSoFar (text ++ c ∷ []) input)
+
+so-far-through : (text input rest : List ℕ) → lineSoFar (lineSoFar text input) rest ≡ lineSoFar text (input ++ rest)
+unfolding lineSoFar
+so-far-through text [] rest = refl
+so-far-through text (c ∷ input) rest = go (eqb c newline) (so-far-through [] input rest) (so-far-through (text ++ c ∷ []) input rest)
+  where
+    go : (t : Bool) → lineSoFar (lineSoFar [] input) rest ≡ lineSoFar [] (input ++ rest)
+        → lineSoFar (lineSoFar (text ++ c ∷ []) input) rest ≡ lineSoFar (text ++ c ∷ []) (input ++ rest)
+        → lineSoFar (cond t (lineSoFar [] input) (lineSoFar (text ++ c ∷ []) input)) rest ≡ cond t (lineSoFar [] (input ++ rest)) (lineSoFar (text ++ c ∷ []) (input ++ rest))
+    go true p q = p
+    go false p q = q
+
 -- where a step ends, with what it wrote, all is as it was to come
-pub record Keeps (p : Place) (text input : List ℕ) (w : Went) : Type 0 where
+record Keeps (p : Place) (text input : List ℕ) (w : Went) : Type 0 where
   pub so : List ℕ
   pub stands : Stands (w .place) so
+  pub so-far : so ≡ lineSoFar text (take (w .taken) input)
   pub same : (more : List ℕ) → w .output ++ toCome (w .place) so (drop (w .taken) input ++ more) ≡ toCome p text (input ++ more)
 
 keeps-still : (p : Place) (text input : List ℕ) → Stands p text → Keeps p text input (still p)
-keeps-still p text input h = record { so = text; stands = h; same = λ more. refl }
+unfolding lineSoFar
+keeps-still p text input h = record { so = text; stands = h; so-far = refl; same = λ more. refl }
 
 keeps-newline : (p : Place) (text input : List ℕ) (w : Went) → Stands p text → Keeps (behind (replyAt p)) [] input w
     → Keeps p text (newline ∷ input) (onward (replyAt p .text) w)
+unfolding lineSoFar
 keeps-newline p text input w h k =
     record {
       so = k .so;
       stands = k .stands;
+      so-far = k .so-far;
       same = λ more.
           append-assoc (replyAt p .text) (w .output) (toCome (w .place) (k .so) (drop (w .taken) input ++ more))
           ∙ ap (λ (t : List ℕ). replyAt p .text ++ t) (k .same more)
           ∙ sym (come-newline p text (input ++ more) h);
     }
 
-keeps-character : (p : Place) (text : List ℕ) (c : ℕ) (input : List ℕ) (w : Went) → Keeps (reading p c) (text ++ c ∷ []) input w → Keeps p text (c ∷ input) (onward [] w)
-keeps-character p text c input w k =
+keeps-character : (p : Place) (text : List ℕ) (c : ℕ) (input : List ℕ) (w : Went) → eqb c newline ≡ false → Keeps (reading p c) (text ++ c ∷ []) input w → Keeps p text (c ∷ input) (onward [] w)
+unfolding lineSoFar
+keeps-character p text c input w e k =
     record {
       so = k .so;
       stands = k .stands;
+      so-far = k .so-far ∙ sym (ap (λ (t : Bool). cond t (lineSoFar [] (take (w .taken) input)) (lineSoFar (text ++ c ∷ []) (take (w .taken) input))) e);
       same = λ more. k .same more ∙ ap (λ (t : List ℕ). replies (p .stage) (p .session) (lines t)) (append-assoc text (c ∷ []) (input ++ more));
     }
 
-pub step-keeps : (p : Place) (text input : List ℕ) (room : ℕ) → Stands p text → Keeps p text input (stepped p input room)
+step-keeps : (p : Place) (text input : List ℕ) (room : ℕ) → Stands p text → Keeps p text input (stepped p input room)
 unfolding stepped
 step-keeps p text [] room h = keeps-still p text [] h
 step-keeps p text (c ∷ input) room h =
@@ -105,7 +127,7 @@ step-keeps p text (c ∷ input) room h =
         → Keeps p text (c ∷ input) (cond s (still p) (cond t (onward (replyAt p .text) w) (onward [] x)))
     go true t e k f = keeps-still p text (c ∷ input) h
     go false true e k f = rw (eqb-true c newline e) (keeps-newline p text input w h k)
-    go false false e k f = keeps-character p text c input x (f e)
+    go false false e k f = keeps-character p text c input x e (f e)
 
 -- ---- what a caller's loop needs
 
@@ -169,7 +191,7 @@ module _ (p : Place) (room : ℕ) (enough : answerLimit ≤ room) where
       ap (λ (t : Bool). cond t (stepped p (newline ∷ []) room) (still p) .output) h
       ∙ ap (λ (t : Bool). cond t (still p) (onward (replyAt p .text) (still (behind (replyAt p)))) .output) (le-ltb room answerLimit enough)
 
-  pub finish-all : (text : List ℕ) → Stands p text → finished p room .output ≡ toCome p text []
+  finish-all : (text : List ℕ) → Stands p text → finished p room .output ≡ toCome p text []
   unfolding replies lines readText
   finish-all [] h = finish-none (h .part)
   finish-all (c ∷ text) h =
@@ -197,6 +219,7 @@ ended-silent Ended s h (l ∷ ls) = ended-silent Ended s h ls
 record Written (k : Journal) (written : List ℕ) (p : Place) (text input : List ℕ) : Type 0 where
   so : List ℕ
   stands : Stands (placeOf k) so
+  so-far : so ≡ lineSoFar text input
   same : (more : List ℕ) → written ++ toCome (placeOf k) so more ≡ toCome p text (input ++ more)
 
 -- one piece in front of what was written
@@ -208,6 +231,11 @@ piece-written w out r out′ s p text input step rest k written next =
     record {
       so = next .so;
       stands = next .stands;
+      so-far =
+          next .so-far
+          ∙ ap₂ (λ (so : List ℕ) (n : ℕ). lineSoFar so (drop n input ++ rest)) (step .so-far) (s .taken)
+          ∙ so-far-through text (take (w .taken) input) (drop (w .taken) input ++ rest)
+          ∙ ap (lineSoFar text) (sym (append-assoc (take (w .taken) input) (drop (w .taken) input) rest) ∙ ap (λ (l : List ℕ). l ++ rest) (take-append-drop (w .taken) input));
       same = λ more.
           append-assoc (take (r .put) out′) written (toCome (placeOf k) (next .so) more)
           ∙ ap₂ (λ (a b : List ℕ). a ++ b) (step-wrote w out r out′ s) (next .same more)
@@ -219,7 +247,8 @@ piece-written w out r out′ s p text input step rest k written next =
 
 ran-written : {j : Journal} {input : List ℕ} {k : Journal} {written : List ℕ} → Ran j input k written
     → (text : List ℕ) → Stands (placeOf j) text → Written k written (placeOf j) text input
-ran-written (ready j) text h = record { so = text; stands = h; same = λ more. refl }
+unfolding lineSoFar
+ran-written (ready j) text h = record { so = text; stands = h; so-far = refl; same = λ more. refl }
 ran-written (piece j input rest out out′ r s k written ran) text h =
     let step = step-keeps (placeOf j) text input (length out) h in
     piece-written (stepped (placeOf j) input (length out)) out r out′ s (placeOf j) text input step rest k written
@@ -250,3 +279,14 @@ module _ (j : Journal) (new : placeOf j ≡ start) (input : List ℕ) (k : Journ
       ∙ ap (λ (t : List ℕ). written ++ t) (sym (ended-silent (k .stage) (k .session) h (lines (all .so ++ more))))
       ∙ all .same more
       ∙ ap (λ (p : Place). toCome p [] (input ++ more)) new
+
+  -- behind a newline no answer is held back
+  pub none-held-back : (front : List ℕ) → input ≡ front ++ newline ∷ [] → written ≡ journal input
+  unfolding journal lines replies lineSoFar
+  none-held-back front e =
+      let all = from-start in
+      let none : all .so ≡ [] = all .so-far ∙ ap (lineSoFar []) e ∙ sym (so-far-through [] front (newline ∷ [])) in
+      sym (append-nil written)
+      ∙ ap (λ (so : List ℕ). written ++ toCome (placeOf k) so []) (sym none)
+      ∙ all .same []
+      ∙ ap₂ (λ (p : Place) (l : List ℕ). toCome p [] l) new (append-nil input)

@@ -1,63 +1,22 @@
 -- Answer 7 is given to a line exactly where it is out of shape: a line in shape never gets it, and any other changes nothing. Assumes nothing.
-use Prim.Native.Nat.{ℕ, zero, suc}
+use Prim.Native.Nat.{ℕ}
 use mathlib.Core.Path.{_≡_, refl, sym, ap, ap₂, _∙_}
 use mathlib.Core.List.{List, [], _∷_}
-use mathlib.Core.Bool.{Bool, true, false, not, cond, _&&_}
-use native.Mathlib.Omega.{arith}
+use mathlib.Core.Bool.{Bool, true, false, cond, _&&_}
 use lib.Dec.{eqb, leb}
 use lib.ListN.{length, replicate}
 use borrow.Author.Tests.{le-leb, leb-true, eq-eqb, eqb-true}
-use Rattle.strobe.specs.Answer.{done, keyFlag, noOperation, notTheLast, cutMac, tooLong, noLevel, badLine, notASession, macUnequal}
-use Rattle.strobe.specs.Duplex.{Sponge, met, same}
-use Rattle.strobe.specs.Flags.{K, flags, has, operation, known, isRecvMac, overLimit, ruleOf}
-use Rattle.strobe.specs.Session.{given, freshAt, blank, created, spongeOf, seen}
-use Rattle.strobe.specs.Strobe.{Strobe, opened, wellFormed, isLast, refusal, verdict, worked, settled, call}
-use Rattle.strobe.specs.declared.flags.Flags.{Flags}
+use Rattle.strobe.specs.Answer.{badLine}
+use Rattle.strobe.specs.Flags.{flags, operation}
+use Rattle.strobe.specs.Session.{given, created, spongeOf, seen}
 use Rattle.strobe.specs.declared.flags.Operation.{Operation}
 use Rattle.strobe.specs.declared.flags.Operation.the-variants.{Ad, Ratchet, Key, Prf, SendClr, RecvClr, SendMac, RecvMac, SendEnc, RecvEnc, Unknown}
-use Rattle.strobe.specs.declared.level.Level.the-variants.{B128, B256}
 use Rattle.strobe.specs.declared.session.Session.{Session}
 use Rattle.frames.specs.Hexadecimal.{Read, misshapen, bytes, decode}
 use Rattle.frames.specs.Frames.{limit, levelOf, opening, countOf, counted, bufferOf, refused, calling, framed}
 use Rattle.frames.specs.Shape.{FirstShape, PayloadShape, LaterShape, InShape}
+use Rattle.strobe.proofs.Seven.{call-not-seven, created-not-seven}
 use Rattle.frames.proofs.Hexadecimal.{decode-encode, decode-encodes}
-
--- ---- STROBE never answers 7
-
-refusal-not-seven : (rate : ℕ) (s : Strobe) (f : Flags) (more : Bool) (n : ℕ) → refusal rate s f more n ≡ badLine → ⊥
-unfolding refusal
-refusal-not-seven rate s f more n =
-    go (not (wellFormed rate s)) (has f K) (not (known (operation f))) (more && isRecvMac (operation f)) (more && not (isLast (s .last) f)) (overLimit (operation f) n)
-  where
-    go : (a b c d e g : Bool) → cond a notASession (cond b keyFlag (cond c noOperation (cond d cutMac (cond e notTheLast (cond g tooLong done))))) ≡ badLine → ⊥
-    go true b c d e g h = omega (arith, h)
-    go false true c d e g h = omega (arith, h)
-    go false false true d e g h = omega (arith, h)
-    go false false false true e g h = omega (arith, h)
-    go false false false false true g h = omega (arith, h)
-    go false false false false false true h = omega (arith, h)
-    go false false false false false false h = omega (arith, h)
-
-verdict-not-seven : (t : Bool) → cond t macUnequal done ≡ badLine → ⊥
-verdict-not-seven true h = omega (arith, h)
-verdict-not-seven false h = omega (arith, h)
-
-call-not-seven : (sp : Sponge) (s : Strobe) (f : Flags) (more : Bool) (bs : List ℕ) → call sp s f more bs .answer ≡ badLine → ⊥
-unfolding call settled worked verdict
-call-not-seven sp s f more bs = go (refusal (sp .rate) s f more (length bs)) (refusal-not-seven (sp .rate) s f more (length bs))
-  where
-    go : (r : ℕ) → (r ≡ badLine → ⊥) → settled sp r s f more bs .answer ≡ badLine → ⊥
-    go zero h k = verdict-not-seven (isRecvMac (operation f) && not (same (met sp (ruleOf (operation f)) (opened sp s f more .duplex) bs) bs)) k
-    go (suc r) h k = h k
-
-created-not-seven : (name : List ℕ) (n : ℕ) → created name n .answer ≡ badLine → ⊥
-unfolding created
-created-not-seven name n = go (eqb n 128) (eqb n 256)
-  where
-    go : (a b : Bool) → cond a (freshAt B128 name) (cond b (freshAt B256 name) (given noLevel blank)) .answer ≡ badLine → ⊥
-    go true b h = omega (arith, h)
-    go false true h = omega (arith, h)
-    go false false h = omega (arith, h)
 
 -- ---- the payload
 

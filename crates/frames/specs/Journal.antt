@@ -23,20 +23,20 @@ pub record Reply : Type 0 where
   pub session : Session
 
 -- a first line that gives anything but 0 ends the run
-abbrev pub opened : Given → Reply
-opened g =
+abbrev pub firstReply : Given → Reply
+firstReply g =
     record { text = answerLine (g .answer) []; stage = cond (eqb (g .answer) done) Later Ended; session = g .session }
 
-abbrev pub went : Said → Reply
-went r = record { text = answerLine (r .answer) (r .shown); stage = Later; session = r .session }
+abbrev pub laterReply : Said → Reply
+laterReply r = record { text = answerLine (r .answer) (r .shown); stage = Later; session = r .session }
 
 -- a run that has ended is silent
 abbrev pub silent : Session → Reply
 silent s = record { text = []; stage = Ended; session = s }
 
 abbrev pub reply : Stage → Session → Read → Reply
-reply First s line = opened (opening s line)
-reply Later s line = went (framed s line)
+reply First s line = firstReply (opening s line)
+reply Later s line = laterReply (framed s line)
 reply Ended s line = silent s
 
 unfoldable pub replies : Stage → Session → List (List ℕ) → List ℕ

@@ -40,6 +40,7 @@ spoilt p = record { bytes = p .bytes; half = p .half; upper = p .upper; good = f
 abbrev pub upperRead : Part → ℕ → Part
 upperRead p v = record { bytes = p .bytes; half = true; upper = v; good = true }
 
+-- the remainder is for a journal that no step has made
 abbrev pub lowerRead : Part → ℕ → Part
 lowerRead p v =
     cond (ltb (length (p .bytes)) lineLimit)

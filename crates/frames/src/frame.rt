@@ -20,7 +20,7 @@ use strobe::Session;
 // The journal's own answer, to a line that is out of shape.
 const BAD_LINE: u8 = 7;
 
-// A payload, and the count of a prf or a send_mac, are at most so long.
+// The count of a prf or a send_mac is at most so large.
 const LIMIT: usize = 4096;
 
 // A first line has a level byte before its name.

@@ -21,7 +21,7 @@ pub struct Journal {
 
 pub struct Stepped {
     pub journal: Journal,
-    // how much of the input was taken
+    // how much of the input was taken; `finish` counts the newline that it adds
     pub taken: usize,
     // how much was written
     pub put: usize,

@@ -104,6 +104,7 @@ fn read(line: Line, buffer: &mut [u8], character: u8) -> Line
     if count == LINE_LIMIT {
         return spoilt(line);
     }
+    // The remainder is for a journal that no step has made: its upper half may be any byte.
     buffer[count] = line.upper % 16 * 16 + value;
     Line {
         count: count + 1,

@@ -11,3 +11,4 @@ pub mod Promise
 pub mod Refused
 pub mod Runs
 pub mod Twenty
+pub mod Seven
