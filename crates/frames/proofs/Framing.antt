@@ -12,7 +12,7 @@ use borrow.Rule.Slice.PartMut.{putMid, postOf, mid-len, same-len-mid}
 use Rattle.strobe.specs.Answer.{number, done, badLine}
 use Rattle.strobe.specs.Flags.{M, RATCHET, META-RATCHET, flags, has, operation}
 use Rattle.strobe.specs.Loops.{ratchets}
-use Rattle.strobe.specs.Session.{given, created, Is, Calls}
+use Rattle.strobe.specs.Session.{given, Is, Calls}
 use Rattle.strobe.specs.declared.answer.Answer.the-variants.{Done}
 use Rattle.strobe.specs.declared.flags.Flags.{Flags}
 use Rattle.strobe.specs.declared.flags.Operation.{Operation}
@@ -21,7 +21,7 @@ use Rattle.strobe.specs.declared.session.Outcome.{Outcome}
 use Rattle.strobe.specs.declared.session.Session.{Session}
 use Rattle.strobe.proofs.Twenty.{at-each, handled-as}
 use Rattle.frames.specs.Hexadecimal.{Read, misshapen, bytes}
-use Rattle.frames.specs.Frames.{Said, limit, levelOf, opening, bigEndian, countOf, counted, bufferOf, shows, refused, calling, framed}
+use Rattle.frames.specs.Frames.{Said, limit, levelOf, creating, opening, bigEndian, countOf, counted, bufferOf, shows, refused, calling, framed}
 use Rattle.frames.specs.Steps.{lineLimit, partOf, readOf}
 use Rattle.frames.specs.Inside.{wholeLine, quiet, Tells}
 use Rattle.frames.specs.declared.frame.Called.{Called}
@@ -93,12 +93,12 @@ module _ (s : Session) (b : List ℕ) (l : Line) {t : Bool} (tested : t ≡ whol
 
   -- a first line
 
-  pub empty-line-opens-nothing : l .count ≡ 0 → opening s (readOf (partOf b l)) ≡ given badLine s
+  pub empty-line-opens-nothing : l .count ≡ 0 → opening s (readOf (partOf b l)) ≡ refused s
   unfolding opening
   empty-line-opens-nothing h = rw (reads-bytes, h)
 
   pub line-opens : 0 < l .count
-      → opening s (readOf (partOf b l)) ≡ cond (leb (l .count - 1) limit) (created (drop 1 (take (l .count) b)) (levelOf (getD b 0 0))) (given badLine s)
+      → opening s (readOf (partOf b l)) ≡ cond (leb (l .count - 1) limit) (creating (drop 1 (take (l .count) b)) (levelOf (getD b 0 0))) (refused s)
   unfolding opening
   line-opens h = rw (reads-bytes, ← length-slice 1 (l .count) b long, slice-cons 0 (l .count) b 0 h long)
 

@@ -8,13 +8,11 @@ use lib.Dec.{eqb, ltb, leb}
 use lib.ListN.{length, length-append}
 use borrow.Author.Tests.{lt-ltb, ltb-true, ltb-false, lt-leb}
 use Rattle.hex.specs.Digits.{valueOf}
-use Rattle.strobe.specs.Answer.{badLine}
 use Rattle.strobe.specs.Flags.{flags, operation}
-use Rattle.strobe.specs.Session.{given, created}
 use Rattle.strobe.specs.declared.session.Session.{Session}
 use Rattle.frames.specs.Hexadecimal.{Read, misshapen, bytes, decode, isDigit, byteOf, ahead}
-use Rattle.frames.specs.Frames.{limit, levelOf, bufferOf, opening, refused, calling, framed}
-use Rattle.frames.specs.Journal.{reply, firstReply, laterReply}
+use Rattle.frames.specs.Frames.{Said, limit, levelOf, bufferOf, creating, opening, refused, calling, framed}
+use Rattle.frames.specs.Journal.{told, behindFirst, reply}
 use Rattle.frames.specs.Steps.{Part, lineLimit, nothing, spoilt, upperRead, read, readOf, begun}
 use Rattle.frames.specs.Inside.{even}
 use Rattle.frames.specs.declared.reply.Stage.{Stage}
@@ -125,7 +123,7 @@ module _ (s : Session) where
   unfolding opening
   opening-long [] h = refl
   opening-long (level ∷ name) h =
-      ap (λ (t : Bool). cond t (created name (levelOf level)) (given badLine s)) (lt-leb (length name) limit (omega (arith, h)))
+      ap (λ (t : Bool). cond t (creating name (levelOf level)) (refused s)) (lt-leb (length name) limit (omega (arith, h)))
 
   framed-long : (cs : List ℕ) → lineLimit < length cs → framed s (bytes cs) ≡ framed s misshapen
   unfolding framed
@@ -137,8 +135,8 @@ module _ (s : Session) where
       ∙ ap (λ (t : Bool). cond t called (refused s)) (and-false (leb more 1))
 
   reply-long : (stage : Stage) (cs : List ℕ) → lineLimit < length cs → reply stage s (bytes cs) ≡ reply stage s misshapen
-  reply-long First cs h = ap firstReply (opening-long cs h)
-  reply-long Later cs h = ap laterReply (framed-long cs h)
+  reply-long First cs h = ap (λ (r : Said). told (behindFirst r) r) (opening-long cs h)
+  reply-long Later cs h = ap (told Later) (framed-long cs h)
   reply-long Ended cs h = refl
 
 pub reply-same : (stage : Stage) (s : Session) (text : List ℕ) → reply stage s (readOf (readText nothing text)) ≡ reply stage s (decode text)

@@ -8,12 +8,12 @@ use lib.ListN.{length, replicate}
 use borrow.Author.Tests.{le-leb, leb-true, eq-eqb, eqb-true}
 use Rattle.strobe.specs.Answer.{badLine}
 use Rattle.strobe.specs.Flags.{flags, operation}
-use Rattle.strobe.specs.Session.{given, created, spongeOf, seen}
+use Rattle.strobe.specs.Session.{spongeOf, seen}
 use Rattle.strobe.specs.declared.flags.Operation.{Operation}
 use Rattle.strobe.specs.declared.flags.Operation.the-variants.{Ad, Ratchet, Key, Prf, SendClr, RecvClr, SendMac, RecvMac, SendEnc, RecvEnc, Unknown}
 use Rattle.strobe.specs.declared.session.Session.{Session}
 use Rattle.frames.specs.Hexadecimal.{Read, misshapen, bytes, decode}
-use Rattle.frames.specs.Frames.{limit, levelOf, opening, countOf, counted, bufferOf, refused, calling, framed}
+use Rattle.frames.specs.Frames.{limit, levelOf, creating, opening, countOf, counted, bufferOf, refused, calling, framed}
 use Rattle.frames.specs.Shape.{FirstShape, PayloadShape, LaterShape, InShape}
 use Rattle.strobe.proofs.Seven.{call-not-seven, created-not-seven}
 use Rattle.frames.proofs.Hexadecimal.{decode-encode, decode-encodes}
@@ -69,7 +69,7 @@ module _ (s : Session) where
   unfolding opening
   first-shape [] h k = h
   first-shape (level ∷ name) h k =
-      created-not-seven name (levelOf level) (sym (ap (λ (t : Bool). cond t (created name (levelOf level)) (given badLine s) .answer) (le-leb (length name) limit h)) ∙ k)
+      created-not-seven name (levelOf level) (sym (ap (λ (t : Bool). cond t (creating name (levelOf level)) (refused s) .answer) (le-leb (length name) limit h)) ∙ k)
 
   later-shape : (bs : List ℕ) → LaterShape bs → framed s (bytes bs) .answer ≡ badLine → ⊥
   unfolding framed calling
@@ -83,12 +83,12 @@ module _ (s : Session) where
       ∙ ap (λ (r : Read). calling s (flags f) (eqb more 1) r .answer) (read .1)) ∙ k)
 
   -- and other bytes
-  first-else : (bs : List ℕ) → (FirstShape bs → ⊥) → opening s (bytes bs) ≡ given badLine s
+  first-else : (bs : List ℕ) → (FirstShape bs → ⊥) → opening s (bytes bs) ≡ refused s
   unfolding opening
   first-else [] h = refl
   first-else (level ∷ name) h = go (leb (length name) limit) refl
     where
-      go : (t : Bool) → leb (length name) limit ≡ t → cond t (created name (levelOf level)) (given badLine s) ≡ given badLine s
+      go : (t : Bool) → leb (length name) limit ≡ t → cond t (creating name (levelOf level)) (refused s) ≡ refused s
       go true e = absurd (h (leb-true (length name) limit e))
       go false e = refl
 
@@ -130,9 +130,9 @@ module _ (s : Session) where
   later-in-shape text h k = later-shape s (h .said) (h .shape) (ap (λ (r : Read). framed s r .answer) (sym (shape-read LaterShape text h)) ∙ k)
 
   -- out of shape: answer 7, and the session is as it was
-  pub first-out-of-shape : (text : List ℕ) → (InShape FirstShape text → ⊥) → opening s (decode text) ≡ given badLine s
+  pub first-out-of-shape : (text : List ℕ) → (InShape FirstShape text → ⊥) → opening s (decode text) ≡ refused s
   unfolding opening
-  first-out-of-shape = none-shape FirstShape (opening s) (given badLine s) refl (first-else s)
+  first-out-of-shape = none-shape FirstShape (opening s) (refused s) refl (first-else s)
 
   pub later-out-of-shape : (text : List ℕ) → (InShape LaterShape text → ⊥) → framed s (decode text) ≡ refused s
   unfolding framed

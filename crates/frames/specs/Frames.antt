@@ -6,7 +6,7 @@ use lib.Dec.{eqb, leb}
 use lib.ListN.{length, replicate}
 use Rattle.strobe.specs.Answer.{done, badLine}
 use Rattle.strobe.specs.Flags.{flags, operation}
-use Rattle.strobe.specs.Session.{Given, given, created, effectOn, held}
+use Rattle.strobe.specs.Session.{created, effectOn, held}
 use Rattle.strobe.specs.declared.flags.Flags.{Flags}
 use Rattle.strobe.specs.declared.flags.Operation.{Operation}
 use Rattle.strobe.specs.declared.flags.Operation.the-variants.{Ad, Ratchet, Key, Prf, SendClr, RecvClr, SendMac, RecvMac, SendEnc, RecvEnc, Unknown}
@@ -17,17 +17,33 @@ use Rattle.frames.specs.Hexadecimal.{Read, misshapen, bytes}
 abbrev pub limit : ℕ
 limit = 4096
 
+-- what comes of a line: the answer, the session, and what is shown of the buffer
+pub record Said : Type 0 where
+  pub answer : ℕ
+  pub session : Session
+  pub shown : List ℕ
+
+-- out of shape: nothing is done
+abbrev pub refused : Session → Said
+refused s = record { answer = badLine; session = s; shown = [] }
+
 -- ---- section 2: the first line
 
 -- the level of a level byte; 0 is none
 abbrev pub levelOf : ℕ → ℕ
 levelOf b = cond (eqb b 0x01) 128 (cond (eqb b 0x02) 256 0)
 
--- a level byte and a protocol name; out of shape it is answered 7, and the session stays
-unfoldable pub opening : Session → Read → Given
-opening s misshapen = given badLine s
-opening s (bytes []) = given badLine s
-opening s (bytes (level ∷ name)) = cond (leb (length name) limit) (created name (levelOf level)) (given badLine s)
+-- STROBE's creation by number
+abbrev pub creating : List ℕ → ℕ → Said
+creating name level =
+    let g = created name level in
+    record { answer = g .answer; session = g .session; shown = [] }
+
+-- a level byte and a protocol name
+unfoldable pub opening : Session → Read → Said
+opening s misshapen = refused s
+opening s (bytes []) = refused s
+opening s (bytes (level ∷ name)) = cond (leb (length name) limit) (creating name (levelOf level)) (refused s)
 
 -- ---- section 3: the other lines
 
@@ -70,16 +86,6 @@ shows RecvMac = false
 shows SendEnc = true
 shows RecvEnc = true
 shows Unknown = false
-
--- what comes of a line: the answer, the session, and what is shown of the buffer
-pub record Said : Type 0 where
-  pub answer : ℕ
-  pub session : Session
-  pub shown : List ℕ
-
--- out of shape
-abbrev pub refused : Session → Said
-refused s = record { answer = badLine; session = s; shown = [] }
 
 -- STROBE's call by number
 unfoldable pub calling : Session → Flags → Bool → Read → Said

@@ -5,7 +5,6 @@ use mathlib.Core.Path.{_≡_}
 use Prim.Native.Nat.{ℕ, _+_, _*_, _≤_, min}
 use lib.Dec.{eqb, ltb}
 use lib.ListN.{length, take, drop}
-use Rattle.strobe.specs.Session.{Given}
 use Rattle.strobe.specs.declared.session.Session.{Session}
 use Rattle.frames.specs.Frames.{Said}
 use Rattle.frames.specs.Journal.{Reply}
@@ -80,9 +79,6 @@ pub record Takes (line : Line) (buffer : List ℕ) (input : List ℕ) (at : ℕ)
 -- nothing is shown
 abbrev pub quiet : Session → ℕ → Called
 quiet s n = record { session = s; answer = n; end = 2 }
-
-abbrev pub saying : Given → Said
-saying g = record { answer = g .answer; session = g .session; shown = [] }
 
 -- what comes of a line: what is shown of its buffer stands from index 2 up to `end`
 pub record Tells (s : Said) (r : Called) (buffer : List ℕ) : Type 0 where

@@ -4,7 +4,7 @@ use mathlib.Core.List.{List, [], _∷_, _++_}
 use Prim.Native.Nat.{ℕ, _+_, _/_, _%_}
 use lib.Dec.{eqb}
 use Rattle.strobe.specs.Answer.{done}
-use Rattle.strobe.specs.Session.{Given, blank}
+use Rattle.strobe.specs.Session.{blank}
 use Rattle.strobe.specs.declared.session.Session.{Session}
 use Rattle.frames.specs.Hexadecimal.{Read, encode, decode}
 use Rattle.frames.specs.Lines.{newline, lines}
@@ -22,21 +22,20 @@ pub record Reply : Type 0 where
   pub stage : Stage
   pub session : Session
 
--- a first line that gives anything but 0 ends the run
-abbrev pub firstReply : Given → Reply
-firstReply g =
-    record { text = answerLine (g .answer) []; stage = cond (eqb (g .answer) done) Later Ended; session = g .session }
+abbrev pub told : Stage → Said → Reply
+told stage r = record { text = answerLine (r .answer) (r .shown); stage = stage; session = r .session }
 
-abbrev pub laterReply : Said → Reply
-laterReply r = record { text = answerLine (r .answer) (r .shown); stage = Later; session = r .session }
+-- a first line that gives anything but 0 ends the run
+abbrev pub behindFirst : Said → Stage
+behindFirst r = cond (eqb (r .answer) done) Later Ended
 
 -- a run that has ended is silent
 abbrev pub silent : Session → Reply
 silent s = record { text = []; stage = Ended; session = s }
 
 abbrev pub reply : Stage → Session → Read → Reply
-reply First s line = firstReply (opening s line)
-reply Later s line = laterReply (framed s line)
+reply First s line = told (behindFirst (opening s line)) (opening s line)
+reply Later s line = told Later (framed s line)
 reply Ended s line = silent s
 
 unfoldable pub replies : Stage → Session → List (List ℕ) → List ℕ

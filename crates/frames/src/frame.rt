@@ -8,7 +8,7 @@ ghost use Rattle.strobe.specs.declared.flags.Operation.the-variants.{Ratchet, P
 ghost use Rattle.frames.specs.Hexadecimal.{bytes};
 ghost use Rattle.frames.specs.Frames.{levelOf, countOf, bufferOf, shows, opening, calling, framed};
 ghost use Rattle.frames.specs.Steps.{lineLimit, partOf, readOf};
-ghost use Rattle.frames.specs.Inside.{quiet, saying, Tells};
+ghost use Rattle.frames.specs.Inside.{quiet, Tells};
 use crate::line;
 use crate::line::Line;
 use strobe::Answer;
@@ -72,7 +72,7 @@ fn level_of(byte: u8) -> usize
 // A first line: a level byte and a protocol name.
 pub fn open(session: Session, line: Line, buffer: &[u8]) -> Called
     requires { ⌜ (line .count ≤ lineLimit) × (length (now buffer) ≡ lineLimit) ⌝ }
-    ensures { λ r. ⌜ Tells (saying (opening session (readOf (partOf (now (buffer .entry)) line)))) r (now (buffer .entry)) ⌝ }
+    ensures { λ r. ⌜ Tells (opening session (readOf (partOf (now (buffer .entry)) line))) r (now (buffer .entry)) ⌝ }
 {
     let count = line.count;
     if !line::whole(line) {
