@@ -1,0 +1,93 @@
+//! Long sequences of drawn lines.
+
+use super::boundaries::around;
+use super::lines::spoilt;
+use super::{Taken, LEVELS};
+use crate::draw::Draw;
+use crate::line::Line;
+use crate::pen::Pen;
+use crate::rules::{plain, FORM_SIZE, MAC_LIMIT, OPERATIONS, RATCHET, RATCHET_LIMIT, RECV_MAC};
+
+const CASES: usize = 9_000;
+const LINES: usize = 80;
+
+/// Mostly few bytes, at times more than a block, seldom many.
+fn length(draw: &mut Draw, level: u8) -> usize {
+    let limit = draw.one_of(&[1, 4, 20, 40, 40, 80, 180, 400]);
+    if draw.once_in(60) {
+        draw.one_of(&around(level))
+    } else {
+        draw.below(limit)
+    }
+}
+
+/// A MAC of any length; a ratchet now and then longer than it may be.
+fn operation(draw: &mut Draw, pen: &mut Pen, flags: u8, more: bool, level: u8) {
+    let length = match plain(flags) {
+        RECV_MAC => draw.one_of(&[0, 1, 8, 16, 16, 32, MAC_LIMIT, MAC_LIMIT + 1]),
+        RATCHET if draw.once_in(20) => RATCHET_LIMIT + 1 + draw.below(9),
+        _ => length(draw, level),
+    };
+    pen.operation(draw, flags, more, length);
+}
+
+/// The last operation gone on with, one of the twenty, or any flag byte.
+fn call(draw: &mut Draw, pen: &mut Pen, level: u8) {
+    let more = draw.once_in(3);
+    let last = pen.session().last();
+    let flags = match last {
+        Some(last) if more && !draw.once_in(6) => last,
+        _ if draw.once_in(12) => draw.number() as u8,
+        _ => draw.one_of(&OPERATIONS),
+    };
+    operation(draw, pen, flags, more, level);
+}
+
+/// A line that is out of shape, or a call that only looks so.
+fn spoil(draw: &mut Draw, pen: &mut Pen) {
+    let flags = draw.one_of(&OPERATIONS);
+    let length = draw.below(20);
+    let bytes = draw.bytes(length);
+    let line = Line::of(flags, draw.once_in(2), &bytes, length);
+    pen.write(spoilt(draw, line));
+}
+
+/// What was saved is loaded later; at times it is damaged, so that all is refused until a good one is loaded.
+fn overnight(draw: &mut Draw, pen: &mut Pen, kept: &mut Vec<u8>) {
+    if draw.once_in(2) {
+        let buffer = FORM_SIZE - 2 + draw.below(6);
+        let buffer = draw.bytes(buffer);
+        if let Some(form) = pen.session().form() {
+            *kept = form.to_vec();
+        }
+        return pen.write(Line::Save(buffer));
+    }
+    let mut form = kept.clone();
+    if draw.once_in(3) && !form.is_empty() {
+        let at = draw.below(6);
+        form[at] = form[at].wrapping_add(draw.number() as u8);
+    }
+    pen.write(Line::Load(form));
+}
+
+/// With saves and loads, or without, as a journal is.
+fn sequence(draw: &mut Draw, level: u8, saves: bool) -> Pen {
+    let name = length(draw, level);
+    let mut pen = Pen::of(level, draw.bytes(name));
+    let mut kept = pen.session().form().expect("a session").to_vec();
+    for _ in 0..LINES {
+        match draw.below(24) {
+            0 => spoil(draw, &mut pen),
+            1 | 2 if saves => overnight(draw, &mut pen, &mut kept),
+            _ => call(draw, &mut pen, level),
+        }
+    }
+    pen
+}
+
+pub fn sequences(taken: &mut Taken) {
+    for number in 0..CASES * taken.share.times {
+        let level = LEVELS[number % 2];
+        taken.offer(|draw| sequence(draw, level, number % 4 < 2).case());
+    }
+}

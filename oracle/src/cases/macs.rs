@@ -1,0 +1,56 @@
+//! Received MACs: the right one, and damaged copies of it.
+
+use super::{Taken, LEVELS};
+use crate::draw::Draw;
+use crate::line::Line;
+use crate::pen::Pen;
+use crate::rules::{I, M, MAC_LIMIT, OPERATIONS, PRF, RECV_MAC};
+
+/// A session behind some operations, so that it may be a sender, a receiver or neither.
+fn before(draw: &mut Draw, level: u8) -> Pen {
+    let name = draw.below(20);
+    let mut pen = Pen::of(level, draw.bytes(name));
+    for _ in 0..draw.below(3) {
+        let flags = draw.one_of(&OPERATIONS);
+        let length = draw.below(40);
+        pen.operation(draw, flags, false, length);
+    }
+    pen
+}
+
+/// A copy with one bit other, without its last byte, with one byte more, or as the other form of the operation would have it.
+fn damaged(draw: &mut Draw, pen: &Pen, flags: u8, length: usize) -> Vec<u8> {
+    let mut mac = pen.session().right_mac(flags, length);
+    match draw.below(8) {
+        0 => drop(mac.pop()),
+        1 => mac.push(draw.number() as u8),
+        2 => mac = pen.session().right_mac(flags ^ M, length),
+        3 => mac.fill(0),
+        _ => {
+            if let Some(at) = length.checked_sub(1).map(|last| draw.below(last + 1)) {
+                mac[at] ^= 1 << draw.below(8);
+            }
+        }
+    }
+    mac
+}
+
+/// Of each length: a wrong one, then a right one, whose session has taken the wrong one in.
+pub fn macs(taken: &mut Taken) {
+    for level in LEVELS {
+        for length in (0..=MAC_LIMIT).collect::<Vec<_>>().repeat(12) {
+            for flags in [RECV_MAC, RECV_MAC | M] {
+                taken.offer(|draw| {
+                    let mut pen = before(draw, level);
+                    let wrong = damaged(draw, &pen, flags, length);
+                    pen.write(Line::Call { flags, more: false, bytes: wrong });
+                    let right = pen.session().right_mac(flags, length);
+                    pen.write(Line::Call { flags, more: false, bytes: right });
+                    pen.operation(draw, flags & !I, false, length);
+                    pen.operation(draw, PRF, false, 4);
+                    pen.case()
+                });
+            }
+        }
+    }
+}

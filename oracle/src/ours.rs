@@ -1,0 +1,105 @@
+//! Our programs: the trace, which stays open and answers case after case, and the journal, which is run for one.
+
+use crate::line::{hexadecimal, text_of, Line};
+use crate::pen::Case;
+use crate::rules;
+use std::io::{self, BufRead, BufReader, Read, Write};
+use std::process::{Child, ChildStdin, ChildStdout, Command, Stdio};
+use std::thread;
+
+/// The words of a command.
+pub type Words = [String];
+
+fn start(words: &Words) -> io::Result<Child> {
+    Command::new(&words[0]).args(&words[1..]).stdin(Stdio::piped()).stdout(Stdio::piped()).spawn()
+}
+
+pub struct Trace {
+    child: Child,
+    input: ChildStdin,
+    output: BufReader<ChildStdout>,
+}
+
+/// The lines up to the empty one that ends a case, or up to where the program ended.
+fn records(output: &mut impl BufRead) -> io::Result<Vec<Vec<u8>>> {
+    let mut records = Vec::new();
+    loop {
+        let mut record = Vec::new();
+        output.read_until(b'\n', &mut record)?;
+        let is_whole = record.pop() == Some(b'\n');
+        if !is_whole || record.is_empty() {
+            return Ok(records);
+        }
+        records.push(record);
+    }
+}
+
+impl Trace {
+    pub fn start(words: &Words) -> io::Result<Trace> {
+        let mut child = start(words)?;
+        let input = child.stdin.take().expect("a pipe");
+        let output = BufReader::with_capacity(1 << 18, child.stdout.take().expect("a pipe"));
+        Ok(Trace { child, input, output })
+    }
+
+    /// What it writes for each of the cases.
+    pub fn answers(&mut self, cases: &[&[Line]]) -> io::Result<Vec<Vec<Vec<u8>>>> {
+        let mut text = Vec::new();
+        for lines in cases {
+            text.extend(text_of(lines));
+            text.push(b'\n');
+        }
+        let Trace { input, output, .. } = self;
+        thread::scope(|both| {
+            // Where this fails the program has ended, and that is seen in what it wrote.
+            both.spawn(|| input.write_all(&text));
+            cases.iter().map(|_| records(output)).collect()
+        })
+    }
+
+    /// Closes its input, and tells whether it ended well and wrote nothing more.
+    pub fn ends(mut self) -> io::Result<bool> {
+        drop(self.input);
+        let mut rest = Vec::new();
+        self.output.read_to_end(&mut rest)?;
+        Ok(self.child.wait()?.success() && rest.is_empty())
+    }
+}
+
+/// What the journal writes for a case without saves and loads.
+pub fn journal_of(case: &Case) -> Vec<u8> {
+    let mut text = Vec::new();
+    for (line, answer) in case.lines.iter().zip(&case.answers) {
+        text.extend(format!("{:02}", answer.number).bytes());
+        if let Line::Call { flags, .. } | Line::Count { flags, .. } = line {
+            if answer.number == rules::DONE && rules::is_shown(*flags) {
+                hexadecimal(&answer.lent, &mut text);
+            }
+        }
+        text.push(b'\n');
+        // A first line that is refused ends the run.
+        if text.len() == 3 && answer.number != rules::DONE {
+            break;
+        }
+    }
+    text
+}
+
+pub fn has_saves(lines: &[Line]) -> bool {
+    lines.iter().any(|line| matches!(line, Line::Save(_) | Line::Load(_)))
+}
+
+/// One run of the journal.
+pub fn journal(words: &Words, lines: &[Line]) -> io::Result<Vec<u8>> {
+    let mut child = start(words)?;
+    let mut input = child.stdin.take().expect("a pipe");
+    let text = text_of(lines);
+    let output = thread::scope(|both| {
+        // Dropped when it is written, so that the journal sees the end.
+        both.spawn(move || input.write_all(&text));
+        let mut output = Vec::new();
+        child.stdout.take().expect("a pipe").read_to_end(&mut output).map(|_| output)
+    })?;
+    child.wait()?;
+    Ok(output)
+}

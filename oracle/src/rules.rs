@@ -1,0 +1,120 @@
+//! What docs/RULES.md, docs/FORMATS.md and docs/JOURNAL.md fix and strobe-rs does not have: the flag bytes by number, the limits, the order of the
+//! tests, and what is well formed.
+
+pub const I: u8 = 0x01;
+pub const M: u8 = 0x10;
+pub const K: u8 = 0x20;
+
+pub const AD: u8 = 0x02;
+pub const RATCHET: u8 = 0x04;
+pub const KEY: u8 = 0x06;
+pub const PRF: u8 = 0x07;
+pub const SEND_CLR: u8 = 0x0a;
+pub const RECV_CLR: u8 = 0x0b;
+pub const SEND_MAC: u8 = 0x0c;
+pub const RECV_MAC: u8 = 0x0d;
+pub const SEND_ENC: u8 = 0x0e;
+pub const RECV_ENC: u8 = 0x0f;
+
+/// The twenty operations, the plain forms before the meta forms.
+pub const OPERATIONS: [u8; 20] = [
+    AD, RATCHET, KEY, PRF, SEND_CLR, RECV_CLR, SEND_MAC, RECV_MAC, SEND_ENC, RECV_ENC, //
+    0x12, 0x14, 0x16, 0x17, 0x1a, 0x1b, 0x1c, 0x1d, 0x1e, 0x1f,
+];
+
+pub const NAMES: [&str; 20] = [
+    "ad",
+    "ratchet",
+    "key",
+    "prf",
+    "send_clr",
+    "recv_clr",
+    "send_mac",
+    "recv_mac",
+    "send_enc",
+    "recv_enc",
+    "meta_ad",
+    "meta_ratchet",
+    "meta_key",
+    "meta_prf",
+    "meta_send_clr",
+    "meta_recv_clr",
+    "meta_send_mac",
+    "meta_recv_mac",
+    "meta_send_enc",
+    "meta_recv_enc",
+];
+
+// The answers.
+pub const DONE: u8 = 0;
+pub const KEY_FLAG: u8 = 1;
+pub const NO_OPERATION: u8 = 2;
+pub const NOT_THE_LAST: u8 = 3;
+pub const CUT_MAC: u8 = 4;
+pub const TOO_LONG: u8 = 5;
+pub const NO_LEVEL: u8 = 6;
+pub const BAD_LINE: u8 = 7;
+pub const NOT_A_SESSION: u8 = 8;
+pub const MAC_UNEQUAL: u8 = 9;
+pub const BAD_SAVED: u8 = 10;
+pub const SHORT_BUFFER: u8 = 11;
+
+/// A wrong MAC is an answer, and no refusal.
+pub fn is_accepted(answer: u8) -> bool {
+    [DONE, MAC_UNEQUAL].contains(&answer)
+}
+
+// The limits of one call, of a line's name or payload, and the size of a saved form.
+pub const RATCHET_LIMIT: usize = 65_536;
+pub const MAC_LIMIT: usize = 64;
+pub const PAYLOAD_LIMIT: usize = 4_096;
+pub const FORM_SIZE: usize = 205;
+
+/// By level byte: 1 is 128, 2 is 256.
+pub fn rate(level: u8) -> usize {
+    if level == 1 {
+        166
+    } else {
+        134
+    }
+}
+
+/// The position of a blank, and its begin position.
+pub const BLANK_POSITION: usize = 166;
+
+pub fn plain(flags: u8) -> u8 {
+    flags & !M
+}
+
+/// The payload is a count, in place of bytes.
+pub fn is_counted(flags: u8) -> bool {
+    [PRF, SEND_MAC, RATCHET].contains(&plain(flags))
+}
+
+/// The journal shows the buffer.
+pub fn is_shown(flags: u8) -> bool {
+    [PRF, SEND_MAC, SEND_ENC, RECV_ENC].contains(&plain(flags))
+}
+
+pub fn is_operation(flags: u8) -> bool {
+    OPERATIONS.contains(&flags)
+}
+
+/// Above the limit of its operation.
+pub fn is_too_long(flags: u8, length: usize) -> bool {
+    match plain(flags) {
+        RATCHET => length > RATCHET_LIMIT,
+        RECV_MAC => length > MAC_LIMIT,
+        _ => false,
+    }
+}
+
+/// A session's saved form, edition 1.
+pub fn is_form(bytes: &[u8]) -> bool {
+    bytes.len() == FORM_SIZE
+        && bytes[0] == 1
+        && (bytes[1] == 1 || bytes[1] == 2)
+        && usize::from(bytes[2]) < rate(bytes[1])
+        && bytes[3] <= bytes[2]
+        && bytes[4] <= 2
+}
