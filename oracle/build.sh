@@ -51,6 +51,7 @@ compile_strobe_rs() {
 
 prepare() {
     command -v rustc > /dev/null || absent "rustc, the Rust compiler, is not on PATH"
+    command -v cc > /dev/null || absent "cc, which rustc links with, is not on PATH"
     if [ ! -f "$strobe_rs/src/strobe.rs" ] || [ ! -f "$strobe_rs/src/keccak.rs" ]; then
         absent "$strobe_rs/src has no strobe.rs and keccak.rs (STROBE_RS names the folder)"
     fi

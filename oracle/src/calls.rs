@@ -13,7 +13,7 @@ thread_local! {
 pub fn hush_caught_panics() {
     let tell = take_hook();
     set_hook(Box::new(move |panic| {
-        if !CATCHING.get() {
+        if !CATCHING.with(Cell::get) {
             tell(panic);
         }
     }));
@@ -21,9 +21,9 @@ pub fn hush_caught_panics() {
 
 /// What the work gives, or nothing where it panics.
 fn caught<T>(work: impl FnOnce() -> T) -> Option<T> {
-    CATCHING.set(true);
+    CATCHING.with(|catching| catching.set(true));
     let result = catch_unwind(AssertUnwindSafe(work)).ok();
-    CATCHING.set(false);
+    CATCHING.with(|catching| catching.set(false));
     result
 }
 

@@ -40,7 +40,7 @@ fn trace_differs(trace: &mut Trace, lines: &[Line]) -> io::Result<bool> {
 }
 
 pub fn journal_differs(words: &Words, lines: &[Line]) -> io::Result<bool> {
-    Ok(!has_saves(lines) && journal(words, lines)? != journal_of(&answered(lines)))
+    Ok(!has_saves(lines) && journal(words, lines)? != Some(journal_of(&answered(lines))))
 }
 
 impl<'a> Comparison<'a> {
@@ -91,7 +91,7 @@ impl<'a> Comparison<'a> {
             return Ok(());
         }
         let words = self.programs.journal;
-        if journal(words, &case.lines)? != journal_of(case) {
+        if journal(words, &case.lines)? != Some(journal_of(case)) {
             let lines = smallest(case.lines.clone(), &mut |lines| journal_differs(words, lines).unwrap_or(false));
             self.difference = Some(Difference { program: "journal", lines });
         }
@@ -128,7 +128,7 @@ pub fn both_sides(trace: &mut Trace, lines: &[Line]) -> io::Result<bool> {
     let theirs = answered(lines).records;
     for at in 0..ours.len().max(theirs.len()) {
         let text = lines.get(at).map_or(Vec::new(), |line| text_of(std::slice::from_ref(line)));
-        let line = String::from_utf8_lossy(text.trim_ascii_end());
+        let line = String::from_utf8_lossy(text.strip_suffix(b"\n").unwrap_or_default());
         if ours.get(at) == theirs.get(at) {
             println!("same: {line}");
         } else {

@@ -31,8 +31,8 @@ fn keep(difference: &Difference, kept: &str, trace: &[String]) -> io::Result<()>
     fs::write(kept, &text)?;
     println!("{} differs from strobe-rs. The smallest case, kept as {kept}:\n", difference.program);
     println!("{}", String::from_utf8_lossy(&text));
-    if difference.program == "trace" {
-        both_sides(&mut Trace::start(trace)?, &difference.lines)?;
+    if difference.program == "trace" && both_sides(&mut Trace::start(trace)?, &difference.lines)? {
+        println!("Alone it does not differ: it does behind the cases before it.");
     }
     Ok(())
 }
@@ -56,7 +56,11 @@ fn run(share: Share, kept: &str, programs: Programs) -> io::Result<bool> {
     for lack in &lacks {
         println!("too few: {lack}");
     }
-    Ok(comparison.ends()? && lacks.is_empty())
+    let ends = comparison.ends()?;
+    if !ends {
+        println!("the trace wrote more than it was asked for, or did not end well");
+    }
+    Ok(ends && lacks.is_empty())
 }
 
 /// The cases of a file, each side beside the other.
@@ -91,8 +95,12 @@ fn answers() -> io::Result<bool> {
     Ok(true)
 }
 
+fn bad_usage() -> io::Error {
+    io::Error::new(io::ErrorKind::InvalidInput, USAGE)
+}
+
 fn number(word: &str) -> io::Result<usize> {
-    word.parse().ok().filter(|n| *n > 0).ok_or_else(|| io::Error::other(USAGE))
+    word.parse().ok().filter(|n| *n > 0).ok_or_else(bad_usage)
 }
 
 fn done(words: &[String]) -> io::Result<bool> {
@@ -108,7 +116,7 @@ fn done(words: &[String]) -> io::Result<bool> {
         }
         (["sample"], []) => io::stdout().write_all(&sample::sample()).map(|()| true),
         (["answers"], []) => answers(),
-        _ => Err(io::Error::other(USAGE)),
+        _ => Err(bad_usage()),
     }
 }
 

@@ -11,7 +11,8 @@ use std::thread;
 pub type Words = [String];
 
 fn start(words: &Words) -> io::Result<Child> {
-    Command::new(&words[0]).args(&words[1..]).stdin(Stdio::piped()).stdout(Stdio::piped()).spawn()
+    let child = Command::new(&words[0]).args(&words[1..]).stdin(Stdio::piped()).stdout(Stdio::piped()).spawn();
+    child.map_err(|error| io::Error::new(error.kind(), format!("{}: {error}", words[0])))
 }
 
 pub struct Trace {
@@ -89,8 +90,8 @@ pub fn has_saves(lines: &[Line]) -> bool {
     lines.iter().any(|line| matches!(line, Line::Save(_) | Line::Load(_)))
 }
 
-/// One run of the journal.
-pub fn journal(words: &Words, lines: &[Line]) -> io::Result<Vec<u8>> {
+/// What one run of the journal writes, if it ends well.
+pub fn journal(words: &Words, lines: &[Line]) -> io::Result<Option<Vec<u8>>> {
     let mut child = start(words)?;
     let mut input = child.stdin.take().expect("a pipe");
     let text = text_of(lines);
@@ -100,6 +101,5 @@ pub fn journal(words: &Words, lines: &[Line]) -> io::Result<Vec<u8>> {
         let mut output = Vec::new();
         child.stdout.take().expect("a pipe").read_to_end(&mut output).map(|_| output)
     })?;
-    child.wait()?;
-    Ok(output)
+    Ok(child.wait()?.success().then_some(output))
 }
