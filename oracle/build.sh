@@ -53,14 +53,19 @@ prepare() {
     command -v rustc > /dev/null || absent "rustc, the Rust compiler, is not on PATH"
     command -v cc > /dev/null || absent "cc, which rustc links with, is not on PATH"
     if [ ! -f "$strobe_rs/src/strobe.rs" ] || [ ! -f "$strobe_rs/src/keccak.rs" ]; then
-        absent "$strobe_rs/src has no strobe.rs and keccak.rs (STROBE_RS names the folder)"
+        [ -z "${STROBE_RS:-}" ] || fail "STROBE_RS is $STROBE_RS, and its src has no strobe.rs and keccak.rs"
+        absent "$strobe_rs/src has no strobe.rs and keccak.rs, and STROBE_RS names no other folder"
     fi
+    # one at a time, since the next line empties the folder
+    mkdir -p target
+    exec 9> target/oracle.lock
+    flock 9
     rm -rf "$out"
-    mkdir -p "$out"
+    mkdir "$out"
     copy_strobe_rs
 }
 
-# The mistake that once cost a studio its dice: the byte that is mixed in for the begin position is 0.
+# 0 is mixed in for the begin position.
 drop_position_byte() {
     local line='let to_mix = &mut [old_pos_begin as u8, flags.bits()];'
     [ "$(grep -cF "$line" "$out/strobe_rs/strobe.rs")" = 1 ] || fail "strobe.rs does not mix the begin position in as it did"

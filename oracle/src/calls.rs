@@ -1,9 +1,14 @@
-//! The calls of strobe-rs by number. Where it panics the panic is caught; what it does not have rules.rs decides before it is asked.
+//! The calls of strobe-rs by number. Where it panics the panic is caught, and its text is the answer. What strobe-rs does not have is refused by rules.rs, in
+//! the order of docs/RULES.md, section 7: 8 (oracle.rs), 1, 2, 4, 3, 5.
 
-use crate::rules;
+use crate::rules::*;
+use std::any::Any;
 use std::cell::Cell;
 use std::panic::{catch_unwind, set_hook, take_hook, AssertUnwindSafe};
 use strobe_rs::{AuthError, Strobe};
+
+/// For a panic that strobe-rs should not have: no answer of ours.
+const OTHER_PANIC: u8 = 99;
 
 thread_local! {
     static CATCHING: Cell<bool> = const { Cell::new(false) };
@@ -19,12 +24,25 @@ pub fn hush_caught_panics() {
     }));
 }
 
-/// What the work gives, or nothing where it panics.
-fn caught<T>(work: impl FnOnce() -> T) -> Option<T> {
+/// strobe-rs has two panics, told apart by their texts.
+fn number_of_panic(panic: &(dyn Any + Send)) -> u8 {
+    let borrowed = panic.downcast_ref::<&str>().copied();
+    let text = panic.downcast_ref::<String>().map(String::as_str).or(borrowed).unwrap_or("");
+    if text.contains("Op flag K not implemented") {
+        KEY_FLAG
+    } else if text.contains("`more` can only be used when this operation is the same") {
+        NOT_THE_LAST
+    } else {
+        OTHER_PANIC
+    }
+}
+
+/// What the work gives, or the number of its panic.
+fn caught<T>(work: impl FnOnce() -> T) -> Result<T, u8> {
     CATCHING.with(|catching| catching.set(true));
-    let result = catch_unwind(AssertUnwindSafe(work)).ok();
+    let result = catch_unwind(AssertUnwindSafe(work));
     CATCHING.with(|catching| catching.set(false));
-    result
+    result.map_err(|panic| number_of_panic(&*panic))
 }
 
 /// strobe-rs knows the length of a MAC when it is compiled.
@@ -34,7 +52,7 @@ fn recv_mac(session: &mut Strobe, flags: u8, mac: &[u8]) -> Result<(), AuthError
             match mac.len() {
                 $($n => {
                     let mac: &[u8; $n] = mac.try_into().unwrap();
-                    if flags & rules::M == 0 { session.recv_mac(mac) } else { session.meta_recv_mac(mac) }
+                    if flags == RECV_MAC { session.recv_mac(mac) } else { session.meta_recv_mac(mac) }
                 })*
                 n => unreachable!("a MAC of {n} bytes is above the limit"),
             }
@@ -50,68 +68,65 @@ fn recv_mac(session: &mut Strobe, flags: u8, mac: &[u8]) -> Result<(), AuthError
 /// One of the twenty by its name, but a ratchet.
 pub fn operate(s: &mut Strobe, flags: u8, more: bool, buf: &mut [u8]) -> Result<(), AuthError> {
     match flags {
-        0x02 => s.ad(buf, more),
-        0x06 => s.key(buf, more),
-        0x07 => s.prf(buf, more),
-        0x0a => s.send_clr(buf, more),
-        0x0b => s.recv_clr(buf, more),
-        0x0c => s.send_mac(buf, more),
-        0x0e => s.send_enc(buf, more),
-        0x0f => s.recv_enc(buf, more),
-        0x12 => s.meta_ad(buf, more),
-        0x16 => s.meta_key(buf, more),
-        0x17 => s.meta_prf(buf, more),
-        0x1a => s.meta_send_clr(buf, more),
-        0x1b => s.meta_recv_clr(buf, more),
-        0x1c => s.meta_send_mac(buf, more),
-        0x1e => s.meta_send_enc(buf, more),
-        0x1f => s.meta_recv_enc(buf, more),
-        0x0d | 0x1d => return recv_mac(s, flags, buf),
-        _ => unreachable!("{flags:02x} is none of the twenty"),
+        AD => s.ad(buf, more),
+        KEY => s.key(buf, more),
+        PRF => s.prf(buf, more),
+        SEND_CLR => s.send_clr(buf, more),
+        RECV_CLR => s.recv_clr(buf, more),
+        SEND_MAC => s.send_mac(buf, more),
+        SEND_ENC => s.send_enc(buf, more),
+        RECV_ENC => s.recv_enc(buf, more),
+        META_AD => s.meta_ad(buf, more),
+        META_KEY => s.meta_key(buf, more),
+        META_PRF => s.meta_prf(buf, more),
+        META_SEND_CLR => s.meta_send_clr(buf, more),
+        META_RECV_CLR => s.meta_recv_clr(buf, more),
+        META_SEND_MAC => s.meta_send_mac(buf, more),
+        META_SEND_ENC => s.meta_send_enc(buf, more),
+        META_RECV_ENC => s.meta_recv_enc(buf, more),
+        RECV_MAC | META_RECV_MAC => return recv_mac(s, flags, buf),
+        _ => unreachable!("{flags:02x} is none of these"),
     }
     Ok(())
 }
 
 fn ratchet(session: &mut Strobe, flags: u8, more: bool, count: usize) {
-    if flags & rules::M == 0 {
+    if flags == RATCHET {
         session.ratchet(count, more)
     } else {
         session.meta_ratchet(count, more)
     }
 }
 
-/// The tests before the work: what is refused, and with which number.
-fn refusal(session: &mut Strobe, flags: u8, more: bool, length: usize) -> Option<u8> {
-    if flags & rules::K != 0 {
-        let panics = caught(|| session.operate_by_number(flags, &mut [], more)).is_none();
-        assert!(panics, "strobe-rs took the flag K");
-        return Some(rules::KEY_FLAG);
+/// What is refused before the work, and with which number.
+fn refusal(session: &Strobe, flags: u8, more: bool, length: usize) -> Option<u8> {
+    if !is_operation(flags) {
+        return Some(NO_OPERATION);
     }
-    if !rules::is_operation(flags) {
-        return Some(rules::NO_OPERATION);
+    if more && plain(flags) == RECV_MAC {
+        return Some(CUT_MAC);
     }
-    if more && rules::plain(flags) == rules::RECV_MAC {
-        return Some(rules::CUT_MAC);
-    }
-    if !rules::is_too_long(flags, length) {
+    if !is_too_long(flags, length) {
         return None;
     }
-    // A panic of strobe-rs comes first; a ratchet of nothing panics where a longer one does.
+    // 3 comes before 5: strobe-rs is asked, on a copy, for a ratchet of nothing. A MAC has `more` off here.
     let mut copy = session.clone();
-    let panics = rules::plain(flags) == rules::RATCHET && caught(|| ratchet(&mut copy, flags, more, 0)).is_none();
-    Some(if panics { rules::NOT_THE_LAST } else { rules::TOO_LONG })
+    let asked = if plain(flags) == RATCHET { caught(|| ratchet(&mut copy, flags, more, 0)) } else { Ok(()) };
+    Some(asked.err().unwrap_or(TOO_LONG))
 }
 
-/// The work: strobe-rs's only panic in it is for `more` on where the last operation is another.
-fn number_of(result: Option<Result<(), AuthError>>) -> u8 {
+fn number_of(result: Result<Result<(), AuthError>, u8>) -> u8 {
     match result {
-        None => rules::NOT_THE_LAST,
-        Some(Ok(())) => rules::DONE,
-        Some(Err(AuthError)) => rules::MAC_UNEQUAL,
+        Ok(Ok(())) => DONE,
+        Ok(Err(AuthError)) => MAC_UNEQUAL,
+        Err(panic) => panic,
     }
 }
 
 pub fn call(session: &mut Strobe, flags: u8, more: bool, buf: &mut [u8]) -> u8 {
+    if flags & K != 0 {
+        return number_of(caught(|| session.operate_by_number(flags, buf, more)).map(Ok));
+    }
     refusal(session, flags, more, buf.len()).unwrap_or_else(|| number_of(caught(|| operate(session, flags, more, buf))))
 }
 

@@ -23,7 +23,7 @@ impl Draw {
         self.below(n) == 0
     }
 
-    pub fn one_of<T: Copy>(&mut self, all: &[T]) -> T {
+    pub fn pick<T: Copy>(&mut self, all: &[T]) -> T {
         all[self.below(all.len())]
     }
 

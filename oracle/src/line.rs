@@ -2,7 +2,7 @@
 
 use crate::rules::{self, PAYLOAD_LIMIT};
 
-#[derive(Clone, PartialEq, Eq)]
+#[derive(Clone)]
 pub enum Line {
     First {
         level: u8,
@@ -132,6 +132,11 @@ pub fn text_of(lines: &[Line]) -> Vec<u8> {
         text.push(b'\n');
     }
     text
+}
+
+/// An empty line stands between two cases.
+pub fn text_of_all(cases: &[Vec<Line>]) -> Vec<u8> {
+    cases.iter().map(|lines| text_of(lines)).collect::<Vec<_>>().join(&b'\n')
 }
 
 /// The cases of a file: an empty line stands between two.

@@ -12,11 +12,12 @@ mod pen;
 mod report;
 mod rules;
 mod sample;
+mod show;
 mod shrink;
 
 use cases::Share;
-use compare::{both_sides, journal_differs, Comparison, Difference, Programs};
-use ours::Trace;
+use compare::{Comparison, Difference, Programs};
+use show::both_sides;
 use std::io::{self, Read, Write};
 use std::process::ExitCode;
 use std::time::Instant;
@@ -25,34 +26,31 @@ use std::{env, fs};
 const USAGE: &str = "usage: oracle run ONE_OF TIMES KEPT -- TRACE.. -- JOURNAL.. | file FILE -- TRACE.. -- JOURNAL.. \
                      | sample | answers";
 
-/// Writes the smallest case to a file, and says what it is.
-fn keep(difference: &Difference, kept: &str, trace: &[String]) -> io::Result<()> {
-    let text = line::text_of(&difference.lines);
+/// Writes the smallest case to a file, says what it is, and shows both sides.
+fn keep(difference: &Difference, kept: &str, programs: Programs) -> io::Result<()> {
+    let text = line::text_of_all(&difference.cases);
     fs::write(kept, &text)?;
     println!("{} differs from strobe-rs. The smallest case, kept as {kept}:\n", difference.program);
     println!("{}", String::from_utf8_lossy(&text));
-    if difference.program == "trace" && both_sides(&mut Trace::start(trace)?, &difference.lines)? {
-        println!("Alone it does not differ: it does behind the cases before it.");
+    // As it is read again, so that it is known to differ when it is run again.
+    if both_sides(programs, &line::cases_in(&text))? {
+        println!("It differed only once.");
     }
     Ok(())
 }
 
 fn run(share: Share, kept: &str, programs: Programs) -> io::Result<bool> {
     let begun = Instant::now();
-    let trace = programs.trace;
     let mut comparison = Comparison::new(programs)?;
     comparison.run(share)?;
     if let Some(difference) = &comparison.difference {
-        keep(difference, kept, trace)?;
+        keep(difference, kept, programs)?;
         return Ok(false);
     }
     let report = &comparison.report;
-    let seconds = begun.elapsed().as_secs_f64();
     println!("{report}");
-    println!("Calls: {}, each by number and, if it has a name, by name too. Nothing is different.", report.calls());
-    println!("Journals, run by the program `journal`: {} of {} lines.", report.journals, report.journal_lines);
-    println!("Seconds: {seconds:.1}.");
-    let lacks = if share.one_of == 1 { report.lacks() } else { Vec::new() };
+    println!("Seconds: {:.1}.", begun.elapsed().as_secs_f64());
+    let lacks = report.lacks(share);
     for lack in &lacks {
         println!("too few: {lack}");
     }
@@ -65,16 +63,11 @@ fn run(share: Share, kept: &str, programs: Programs) -> io::Result<bool> {
 
 /// The cases of a file, each side beside the other.
 fn file(name: &str, programs: Programs) -> io::Result<bool> {
-    let mut trace = Trace::start(programs.trace)?;
-    let mut same = true;
-    for lines in line::cases_in(&fs::read(name)?) {
-        same &= both_sides(&mut trace, &lines)?;
-        if journal_differs(programs.journal, &lines)? {
-            println!("DIFFERENT: the journal program");
-            same = false;
-        }
+    let cases = line::cases_in(&fs::read(name)?);
+    if cases.iter().all(Vec::is_empty) {
+        return Err(io::Error::new(io::ErrorKind::InvalidData, format!("{name} has no case")));
     }
-    Ok(same)
+    both_sides(programs, &cases)
 }
 
 /// strobe-rs's answers to the cases on standard input.
@@ -114,7 +107,7 @@ fn done(words: &[String]) -> io::Result<bool> {
         (["file", name], [trace, journal]) if !trace.is_empty() && !journal.is_empty() => {
             file(name, Programs { trace, journal })
         }
-        (["sample"], []) => io::stdout().write_all(&sample::sample()).map(|()| true),
+        (["sample"], []) => io::stdout().write_all(&line::text_of_all(&sample::sample())).map(|()| true),
         (["answers"], []) => answers(),
         _ => Err(bad_usage()),
     }

@@ -5,7 +5,7 @@ use crate::line::{hexadecimal, Line};
 use crate::rules;
 use strobe_rs::{Parts, SecParam, Strobe};
 
-/// What the buffer of a prf or a sent MAC holds before the call.
+/// What the buffer of a prf, a sent MAC or a ratchet holds before the call.
 pub const FILL: u8 = 0xa5;
 
 pub struct Answer {
@@ -80,18 +80,20 @@ impl Oracle {
             Line::Call { flags, more, bytes } => {
                 self.work(bytes.clone(), |session, buf| call(session, *flags, *more, buf))
             }
-            Line::Count { flags, more, count } if rules::plain(*flags) == rules::RATCHET => {
-                let count = *count as usize;
-                self.work(Vec::new(), |session, _| ratchet_call(session, *flags, *more, count))
-            }
-            Line::Count { flags, more, count } => {
-                let buffer = vec![FILL; *count as usize];
-                self.work(buffer, |session, buf| call(session, *flags, *more, buf))
-            }
+            Line::Count { flags, more, count } => self.count(*flags, *more, *count as usize),
             Line::Save(buffer) => self.save(buffer.clone()),
             Line::Load(bytes) => self.load(bytes.clone()),
             Line::Bad(_) => Answer { number: rules::BAD_LINE, lent: Vec::new() },
         }
+    }
+
+    /// The trace has no buffer for a longer ratchet.
+    fn count(&mut self, flags: u8, more: bool, count: usize) -> Answer {
+        let buffer = vec![FILL; if count <= rules::PAYLOAD_LIMIT { count } else { 0 }];
+        if rules::plain(flags) == rules::RATCHET {
+            return self.work(buffer, |session, _| ratchet_call(session, flags, more, count));
+        }
+        self.work(buffer, |session, buf| call(session, flags, more, buf))
     }
 
     fn create(&mut self, level: u8, name: &[u8]) -> Answer {
@@ -144,8 +146,7 @@ impl Oracle {
             last: None,
         };
         let parts = self.session.as_ref().map_or(blank, Strobe::parts);
-        let version = self.session.as_ref().map(Strobe::version_str);
-        text.extend(version.as_ref().map_or(&b"128"[..], |version| &version[14..17]));
+        text.extend(self.session.as_ref().map_or(*rules::BLANK_VERSION, Strobe::version_str));
         let last = parts.last.map_or("--".to_string(), |flags| format!("{flags:02x}"));
         let direction = direction_byte(parts.is_receiver);
         text.extend(format!(" {:02x} {:02x} {direction} {last} ", parts.position, parts.begin).bytes());

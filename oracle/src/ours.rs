@@ -17,7 +17,8 @@ fn start(words: &Words) -> io::Result<Child> {
 
 pub struct Trace {
     child: Child,
-    input: ChildStdin,
+    /// until its end
+    input: Option<ChildStdin>,
     output: BufReader<ChildStdout>,
 }
 
@@ -38,7 +39,7 @@ fn records(output: &mut impl BufRead) -> io::Result<Vec<Vec<u8>>> {
 impl Trace {
     pub fn start(words: &Words) -> io::Result<Trace> {
         let mut child = start(words)?;
-        let input = child.stdin.take().expect("a pipe");
+        let input = child.stdin.take();
         let output = BufReader::with_capacity(1 << 18, child.stdout.take().expect("a pipe"));
         Ok(Trace { child, input, output })
     }
@@ -53,24 +54,47 @@ impl Trace {
         let Trace { input, output, .. } = self;
         thread::scope(|both| {
             // Where this fails the program has ended, and that is seen in what it wrote.
-            both.spawn(|| input.write_all(&text));
+            both.spawn(|| input.as_mut().map(|input| input.write_all(&text)));
             cases.iter().map(|_| records(output)).collect()
         })
     }
 
     /// Closes its input, and tells whether it ended well and wrote nothing more.
-    pub fn ends(mut self) -> io::Result<bool> {
-        drop(self.input);
+    pub fn ends(&mut self) -> io::Result<bool> {
+        self.input = None;
         let mut rest = Vec::new();
         self.output.read_to_end(&mut rest)?;
         Ok(self.child.wait()?.success() && rest.is_empty())
     }
 }
 
-/// What the journal writes for a case without saves and loads.
-pub fn journal_of(case: &Case) -> Vec<u8> {
+impl Drop for Trace {
+    fn drop(&mut self) {
+        // It may have ended already.
+        let _ = self.child.kill();
+        let _ = self.child.wait();
+    }
+}
+
+/// How a journal ends: as it stands, without its last newline, or with an empty line, which is out of shape.
+#[derive(Clone, Copy)]
+pub enum Ending {
+    Newline,
+    NoNewline,
+    EmptyLine,
+}
+
+pub const ENDINGS: [Ending; 3] = [Ending::Newline, Ending::NoNewline, Ending::EmptyLine];
+
+/// A case has no empty line, and a save or a load is no line of a journal.
+pub fn is_journal(lines: &[Line]) -> bool {
+    !lines.iter().any(|line| matches!(line, Line::Save(_) | Line::Load(_)))
+}
+
+/// What the journal has to write for a case.
+pub fn journal_of(case: &Case, ending: Ending) -> Vec<u8> {
     let mut text = Vec::new();
-    for (line, answer) in case.lines.iter().zip(&case.answers) {
+    for (at, (line, answer)) in case.lines.iter().zip(&case.answers).enumerate() {
         text.extend(format!("{:02}", answer.number).bytes());
         if let Line::Call { flags, .. } | Line::Count { flags, .. } = line {
             if answer.number == rules::DONE && rules::is_shown(*flags) {
@@ -79,22 +103,26 @@ pub fn journal_of(case: &Case) -> Vec<u8> {
         }
         text.push(b'\n');
         // A first line that is refused ends the run.
-        if text.len() == 3 && answer.number != rules::DONE {
-            break;
+        if at == 0 && answer.number != rules::DONE {
+            return text;
         }
+    }
+    if let Ending::EmptyLine = ending {
+        text.extend(format!("{:02}\n", rules::BAD_LINE).bytes());
     }
     text
 }
 
-pub fn has_saves(lines: &[Line]) -> bool {
-    lines.iter().any(|line| matches!(line, Line::Save(_) | Line::Load(_)))
-}
-
 /// What one run of the journal writes, if it ends well.
-pub fn journal(words: &Words, lines: &[Line]) -> io::Result<Option<Vec<u8>>> {
+pub fn journal(words: &Words, lines: &[Line], ending: Ending) -> io::Result<Option<Vec<u8>>> {
+    let mut text = text_of(lines);
+    match ending {
+        Ending::Newline => {}
+        Ending::NoNewline => drop(text.pop()),
+        Ending::EmptyLine => text.push(b'\n'),
+    }
     let mut child = start(words)?;
     let mut input = child.stdin.take().expect("a pipe");
-    let text = text_of(lines);
     let output = thread::scope(|both| {
         // Dropped when it is written, so that the journal sees the end.
         both.spawn(move || input.write_all(&text));

@@ -1,8 +1,9 @@
 //! What was compared, in figures.
 
+use crate::cases::Share;
 use crate::line::Line;
 use crate::pen::Case;
-use crate::rules::{is_accepted, NAMES, OPERATIONS};
+use crate::rules::{is_accepted, KEY_FLAG, NAMED, NOT_THE_LAST};
 use std::collections::BTreeMap;
 use std::fmt;
 
@@ -38,7 +39,7 @@ impl Kind {
         match line {
             Line::First { .. } => Kind::Creation,
             Line::Call { flags, .. } | Line::Count { flags, .. } => {
-                OPERATIONS.iter().position(|operation| operation == flags).map_or(Kind::OtherFlags, Kind::Operation)
+                NAMED.iter().position(|(operation, _)| operation == flags).map_or(Kind::OtherFlags, Kind::Operation)
             }
             Line::Save(_) => Kind::Save,
             Line::Load(_) => Kind::Load,
@@ -46,10 +47,16 @@ impl Kind {
         }
     }
 
+    /// strobe-rs has a creation and the operations, and a panic for K and for `more`.
+    fn is_answered(self, answer: u8) -> bool {
+        matches!(self, Kind::Creation | Kind::Operation(_) | Kind::OtherFlags)
+            && (is_accepted(answer) || [KEY_FLAG, NOT_THE_LAST].contains(&answer))
+    }
+
     fn name(self) -> &'static str {
         match self {
             Kind::Creation => "a creation",
-            Kind::Operation(at) => NAMES[at],
+            Kind::Operation(at) => NAMED[at].1,
             Kind::OtherFlags => "a flag byte outside the twenty",
             Kind::Save => "a save",
             Kind::Load => "a load",
@@ -58,7 +65,7 @@ impl Kind {
     }
 }
 
-/// What every run at full size has to reach.
+/// What a run of all cases has to reach: calls that strobe-rs answers, and of each operation at each level and each answer.
 const CALLS: usize = 1_000_000;
 const TIMES: usize = 1_000;
 
@@ -69,6 +76,8 @@ pub struct Report {
     /// by kind: accepted at level 128, accepted at level 256, refused
     kinds: BTreeMap<Kind, [usize; 3]>,
     answers: [usize; ANSWERS.len()],
+    /// calls that strobe-rs answers: it returns, or panics
+    answered: usize,
     /// the runs of the journal, and their lines
     pub journals: usize,
     pub journal_lines: usize,
@@ -83,36 +92,45 @@ impl Report {
         *cases += 1;
         *lines += case.lines.len();
         for ((line, answer), level) in case.lines.iter().zip(&case.answers).zip(&case.levels) {
-            self.answers[usize::from(answer.number)] += 1;
+            // A number that is none of the answers is about to differ.
+            if let Some(times) = self.answers.get_mut(usize::from(answer.number)) {
+                *times += 1;
+            }
+            let kind = Kind::of(line);
+            if kind.is_answered(answer.number) {
+                self.answered += 1;
+            }
             let column = match level {
                 Some(level) if is_accepted(answer.number) => usize::from(*level) - 1,
                 _ => 2,
             };
-            self.kinds.entry(Kind::of(line)).or_default()[column] += 1;
+            self.kinds.entry(kind).or_default()[column] += 1;
         }
     }
 
     /// Lines out of shape are no calls.
-    pub fn calls(&self) -> usize {
+    fn calls(&self) -> usize {
         let bad = self.kinds.get(&Kind::BadLine).map_or(0, |times| times[2]);
         self.answers.iter().sum::<usize>() - bad
     }
 
-    /// What a run at full size lacks, if anything.
-    pub fn lacks(&self) -> Vec<String> {
+    /// What a run lacks, if anything. A part of the cases has to reach half of its share.
+    pub fn lacks(&self, share: Share) -> Vec<String> {
+        let part = if share.one_of == 1 { 1 } else { 2 * share.one_of };
+        let (calls, times) = (CALLS / part, TIMES / part);
         let mut lacks = Vec::new();
-        if self.calls() < CALLS {
-            lacks.push(format!("{} calls, not {CALLS}", self.calls()));
+        if self.answered < calls {
+            lacks.push(format!("strobe-rs answered {} calls, not {calls}", self.answered));
         }
-        for (number, times) in self.answers.iter().enumerate() {
-            if *times < TIMES {
-                lacks.push(format!("answer {number} {times} times, not {TIMES}"));
+        for (number, given) in self.answers.iter().enumerate() {
+            if *given < times {
+                lacks.push(format!("answer {number} was given {given} times, not {times}"));
             }
         }
-        for (at, name) in NAMES.iter().enumerate() {
+        for (at, (_, name)) in NAMED.iter().enumerate() {
             let [low, high, _] = self.kinds.get(&Kind::Operation(at)).copied().unwrap_or_default();
-            if low.min(high) < TIMES {
-                lacks.push(format!("{name} {low} and {high} times, not {TIMES}"));
+            if low.min(high) < times {
+                lacks.push(format!("{name} was done {low} and {high} times, not {times}"));
             }
         }
         lacks
@@ -133,6 +151,12 @@ impl fmt::Display for Report {
         for (number, times) in self.answers.iter().enumerate() {
             writeln!(out, "| {number} | {} | {times} |", ANSWERS[number])?;
         }
-        Ok(())
+        writeln!(
+            out,
+            "\nCalls: {}, of which strobe-rs answered {}. Nothing is different.",
+            self.calls(),
+            self.answered
+        )?;
+        writeln!(out, "Journals: {} of {} lines.", self.journals, self.journal_lines)
     }
 }

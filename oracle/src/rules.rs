@@ -1,7 +1,8 @@
-//! What docs/RULES.md, docs/FORMATS.md and docs/JOURNAL.md fix and strobe-rs does not have: the flag bytes by number, the limits, the order of the
-//! tests, and what is well formed.
+//! What docs/RULES.md, docs/FORMATS.md and docs/JOURNAL.md fix and strobe-rs does not have: the flag bytes by number, the answers, the limits, and which
+//! bytes are a saved form.
 
 pub const I: u8 = 0x01;
+pub const C: u8 = 0x04;
 pub const M: u8 = 0x10;
 pub const K: u8 = 0x20;
 
@@ -15,35 +16,45 @@ pub const SEND_MAC: u8 = 0x0c;
 pub const RECV_MAC: u8 = 0x0d;
 pub const SEND_ENC: u8 = 0x0e;
 pub const RECV_ENC: u8 = 0x0f;
+pub const META_AD: u8 = M | AD;
+pub const META_RATCHET: u8 = M | RATCHET;
+pub const META_KEY: u8 = M | KEY;
+pub const META_PRF: u8 = M | PRF;
+pub const META_SEND_CLR: u8 = M | SEND_CLR;
+pub const META_RECV_CLR: u8 = M | RECV_CLR;
+pub const META_SEND_MAC: u8 = M | SEND_MAC;
+pub const META_RECV_MAC: u8 = M | RECV_MAC;
+pub const META_SEND_ENC: u8 = M | SEND_ENC;
+pub const META_RECV_ENC: u8 = M | RECV_ENC;
 
-/// The twenty operations, the plain forms before the meta forms.
-pub const OPERATIONS: [u8; 20] = [
-    AD, RATCHET, KEY, PRF, SEND_CLR, RECV_CLR, SEND_MAC, RECV_MAC, SEND_ENC, RECV_ENC, //
-    0x12, 0x14, 0x16, 0x17, 0x1a, 0x1b, 0x1c, 0x1d, 0x1e, 0x1f,
+/// The twenty operations with their names.
+pub const NAMED: [(u8, &str); 20] = [
+    (AD, "ad"),
+    (RATCHET, "ratchet"),
+    (KEY, "key"),
+    (PRF, "prf"),
+    (SEND_CLR, "send_clr"),
+    (RECV_CLR, "recv_clr"),
+    (SEND_MAC, "send_mac"),
+    (RECV_MAC, "recv_mac"),
+    (SEND_ENC, "send_enc"),
+    (RECV_ENC, "recv_enc"),
+    (META_AD, "meta_ad"),
+    (META_RATCHET, "meta_ratchet"),
+    (META_KEY, "meta_key"),
+    (META_PRF, "meta_prf"),
+    (META_SEND_CLR, "meta_send_clr"),
+    (META_RECV_CLR, "meta_recv_clr"),
+    (META_SEND_MAC, "meta_send_mac"),
+    (META_RECV_MAC, "meta_recv_mac"),
+    (META_SEND_ENC, "meta_send_enc"),
+    (META_RECV_ENC, "meta_recv_enc"),
 ];
 
-pub const NAMES: [&str; 20] = [
-    "ad",
-    "ratchet",
-    "key",
-    "prf",
-    "send_clr",
-    "recv_clr",
-    "send_mac",
-    "recv_mac",
-    "send_enc",
-    "recv_enc",
-    "meta_ad",
-    "meta_ratchet",
-    "meta_key",
-    "meta_prf",
-    "meta_send_clr",
-    "meta_recv_clr",
-    "meta_send_mac",
-    "meta_recv_mac",
-    "meta_send_enc",
-    "meta_recv_enc",
-];
+/// Their flag bytes alone.
+pub fn operations() -> [u8; 20] {
+    NAMED.map(|(flags, _)| flags)
+}
 
 // The answers.
 pub const DONE: u8 = 0;
@@ -82,6 +93,9 @@ pub fn rate(level: u8) -> usize {
 /// The position of a blank, and its begin position.
 pub const BLANK_POSITION: usize = 166;
 
+/// The version text of a blank.
+pub const BLANK_VERSION: &[u8; 29] = b"Strobe-Keccak-128/1600-v1.0.2";
+
 pub fn plain(flags: u8) -> u8 {
     flags & !M
 }
@@ -97,7 +111,7 @@ pub fn is_shown(flags: u8) -> bool {
 }
 
 pub fn is_operation(flags: u8) -> bool {
-    OPERATIONS.contains(&flags)
+    operations().contains(&flags)
 }
 
 /// Above the limit of its operation.

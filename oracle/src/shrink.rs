@@ -1,37 +1,44 @@
 //! The smallest case that still shows a difference, by trying smaller ones.
 
 use crate::line::Line;
+use std::io;
 
-/// Lines without some, in ever shorter runs. The first line stays.
-fn with_fewer_lines(lines: &mut Vec<Line>, differs: &mut dyn FnMut(&[Line]) -> bool) -> bool {
-    let mut shrunk = false;
-    let mut size = lines.len() / 2;
-    while size > 0 {
-        let mut at = 1;
-        while at + size <= lines.len() {
-            let mut fewer = lines.clone();
-            fewer.drain(at..at + size);
-            if differs(&fewer) {
-                *lines = fewer;
-                shrunk = true;
+/// Whether a candidate still shows the difference.
+type Differs<'a, T> = dyn FnMut(&[T]) -> io::Result<bool> + 'a;
+
+/// Leaves items out, in ever shorter runs, but for those before `kept`. Whether any could be.
+fn fewer<T: Clone>(items: &mut Vec<T>, kept: usize, shortest: usize, differs: &mut Differs<T>) -> io::Result<bool> {
+    let before = items.len();
+    let mut size = before / 2;
+    while size >= shortest {
+        let mut at = kept;
+        while at + size <= items.len() {
+            let mut candidate = items.clone();
+            candidate.drain(at..at + size);
+            if differs(&candidate)? {
+                *items = candidate;
             } else {
                 at += size;
             }
         }
         size /= 2;
     }
-    shrunk
+    Ok(items.len() < before)
 }
 
 /// Shorter bytes, or bytes that are zero.
 fn smaller_bytes(bytes: &[u8]) -> Vec<Vec<u8>> {
-    let n = bytes.len();
-    let mut smaller: Vec<_> = [0, n / 2, n.saturating_sub(8), n.saturating_sub(1)].map(|m| bytes[..m].to_vec()).into();
-    smaller.retain(|fewer| fewer.len() < n);
+    let mut smaller = shorter(bytes);
     if bytes.iter().any(|byte| *byte != 0) {
-        smaller.push(vec![0; n]);
+        smaller.push(vec![0; bytes.len()]);
     }
     smaller
+}
+
+fn shorter(bytes: &[u8]) -> Vec<Vec<u8>> {
+    let n = bytes.len();
+    let lengths = [0, n / 2, n.saturating_sub(8), n.saturating_sub(1)];
+    lengths.iter().filter(|length| **length < n).map(|length| bytes[..*length].to_vec()).collect()
 }
 
 fn smaller_counts(count: u32) -> Vec<u32> {
@@ -41,7 +48,7 @@ fn smaller_counts(count: u32) -> Vec<u32> {
 }
 
 /// The lines that are a step smaller than this one.
-fn smaller(line: &Line) -> Vec<Line> {
+fn smaller(line: &Line, is_first: bool) -> Vec<Line> {
     match line.clone() {
         Line::First { level, name } => {
             smaller_bytes(&name).into_iter().map(|name| Line::First { level, name }).collect()
@@ -58,33 +65,43 @@ fn smaller(line: &Line) -> Vec<Line> {
             .collect(),
         Line::Save(bytes) => smaller_bytes(&bytes).into_iter().map(Line::Save).collect(),
         Line::Load(bytes) => smaller_bytes(&bytes).into_iter().map(Line::Load).collect(),
-        Line::Bad(text) => (1..text.len()).map(|n| Line::Bad(text[..n].to_vec())).collect(),
+        // Cut shorter it may be in shape, so it is read again. An empty line would end the case.
+        Line::Bad(text) => {
+            shorter(&text).iter().filter(|text| !text.is_empty()).map(|text| Line::read(text, is_first)).collect()
+        }
     }
 }
 
-fn with_smaller_lines(lines: &mut [Line], differs: &mut dyn FnMut(&[Line]) -> bool) -> bool {
+fn with_smaller_lines(lines: &mut [Line], differs: &mut Differs<Line>) -> io::Result<bool> {
     let mut shrunk = false;
     for at in 0..lines.len() {
-        for line in smaller(&lines[at]) {
+        for line in smaller(&lines[at], at == 0) {
             let mut candidate = lines.to_vec();
             candidate[at] = line;
-            if differs(&candidate) {
+            if differs(&candidate)? {
                 lines.clone_from_slice(&candidate);
                 shrunk = true;
                 break;
             }
         }
     }
-    shrunk
+    Ok(shrunk)
 }
 
-/// From a case that differs: no line can be left out, and none made smaller by a step.
-pub fn smallest(mut lines: Vec<Line>, differs: &mut dyn FnMut(&[Line]) -> bool) -> Vec<Line> {
+/// From cases of which the last differs only behind the others: not one by one, since each trial runs them all.
+pub fn fewer_cases(mut cases: Vec<Vec<Line>>, differs: &mut Differs<Vec<Line>>) -> io::Result<Vec<Vec<Line>>> {
+    let shortest = 1 + cases.len() / 32;
+    fewer(&mut cases, 0, shortest, differs)?;
+    Ok(cases)
+}
+
+/// From a case that differs: no line can be left out, and none made smaller by a step. The first line stays.
+pub fn smallest(mut lines: Vec<Line>, differs: &mut Differs<Line>) -> io::Result<Vec<Line>> {
     loop {
-        let fewer = with_fewer_lines(&mut lines, differs);
-        let smaller = with_smaller_lines(&mut lines, differs);
-        if !fewer && !smaller {
-            return lines;
+        let fewer_lines = fewer(&mut lines, 1, 1, differs)?;
+        let smaller_lines = with_smaller_lines(&mut lines, differs)?;
+        if !fewer_lines && !smaller_lines {
+            return Ok(lines);
         }
     }
 }

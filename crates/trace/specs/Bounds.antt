@@ -12,17 +12,20 @@ bytesLimit = 4098
 abbrev pub outSize : ℕ
 outSize = 65536
 
--- a line of output has so many characters beside the lent bytes
+-- a line of output has so many characters before the lent bytes, and so many beside them
+abbrev pub headSize : ℕ
+headSize = 44
+
 abbrev pub recordSize : ℕ
-recordSize = 420
+recordSize = 446
 
 -- with 4,096 lent bytes it has so many, and two of them have
 abbrev pub recordLimit : ℕ
-recordLimit = 8612
+recordLimit = 8638
 
 abbrev pub replyLimit : ℕ
-replyLimit = 17224
+replyLimit = 17276
 
--- the lent buffer stands in the line's bytes from byte 2 on, and has as many as are shown
+-- the lent buffer stands in the line's bytes from byte 2 on
 abbrev pub Inside : Frame → Type 0
-Inside f = (2 + f .shown ≤ f .end) × (f .end ≤ bytesLimit)
+Inside f = (2 ≤ f .end) × (f .end ≤ bytesLimit)

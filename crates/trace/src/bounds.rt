@@ -10,4 +10,4 @@ pub const BYTES_LIMIT: usize = 4098;
 pub const OUT_SIZE: usize = 65536;
 
 // The longest reply to a line: two lines of output with 4,096 lent bytes each.
-pub const REPLY_LIMIT: usize = 17224;
+pub const REPLY_LIMIT: usize = 17276;

@@ -25,8 +25,6 @@ pub struct Frame {
     pub asked: Asked,
     // where it ends
     pub end: usize,
-    // how many of its bytes are shown
-    pub shown: usize,
 }
 
 // The longest buffer that is lent.
@@ -41,11 +39,10 @@ fn bad() -> Frame
     Frame {
         asked: Asked::Nothing,
         end: 2,
-        shown: 0,
     }
 }
 
-// All of the buffer is shown. An end before byte 2 is that of a line that is out of shape or too short.
+// An end before byte 2 is that of a line that is out of shape or too short.
 fn lending(asked: Asked, end: usize) -> Frame
     requires { ⌜ end ≤ bytesLimit ⌝ }
     ensures { λ r. ⌜ Inside r ⌝ }
@@ -53,11 +50,7 @@ fn lending(asked: Asked, end: usize) -> Frame
     if end < 2 {
         return bad();
     }
-    Frame {
-        asked,
-        end,
-        shown: end - 2,
-    }
+    Frame { asked, end }
 }
 
 // A count of four bytes, the highest first.
@@ -75,22 +68,34 @@ fn fill(bytes: &mut [u8; BYTES_LIMIT], end: usize)
     }
 }
 
-// A prf or a send_mac: the payload is four bytes, and the buffer is as long as they say.
-fn draw(flags: Flags, more: bool, bytes: &mut [u8; BYTES_LIMIT], end: usize) -> Frame
+// The payload is a count of four bytes, and the buffer is as long as they say. There is none for a larger count: what is asked for then is `otherwise`.
+fn counted(
+    flags: Flags,
+    more: bool,
+    bytes: &mut [u8; BYTES_LIMIT],
+    count: usize,
+    otherwise: Asked,
+) -> Frame
+    ensures { λ r. ⌜ Inside r ⌝ }
+{
+    if count > LENT_LIMIT {
+        return lending(otherwise, 2);
+    }
+    fill(bytes, 2 + count);
+    lending(Asked::Call(flags, more), 2 + count)
+}
+
+// A prf or a send_mac.
+fn output(flags: Flags, more: bool, bytes: &mut [u8; BYTES_LIMIT], end: usize) -> Frame
     ensures { λ r. ⌜ Inside r ⌝ }
 {
     if end != 6 {
         return bad();
     }
     let count = count_of(bytes[2], bytes[3], bytes[4], bytes[5]);
-    if count > LENT_LIMIT {
-        return bad();
-    }
-    fill(bytes, 2 + count);
-    lending(Asked::Call(flags, more), 2 + count)
+    counted(flags, more, bytes, count, Asked::Nothing)
 }
 
-// A ratchet: the same, but its buffer is not shown, and there is none for a large count.
 fn ratchet(flags: Flags, more: bool, bytes: &mut [u8; BYTES_LIMIT], end: usize) -> Frame
     ensures { λ r. ⌜ Inside r ⌝ }
 {
@@ -98,15 +103,13 @@ fn ratchet(flags: Flags, more: bool, bytes: &mut [u8; BYTES_LIMIT], end: usize) 
         return bad();
     }
     let count = count_of(bytes[2], bytes[3], bytes[4], bytes[5]);
-    if count > LENT_LIMIT {
-        return lending(Asked::LongRatchet(flags, more, count), 2);
-    }
-    fill(bytes, 2 + count);
-    Frame {
-        asked: Asked::Call(flags, more),
-        end: 2 + count,
-        shown: 0,
-    }
+    counted(
+        flags,
+        more,
+        bytes,
+        count,
+        Asked::LongRatchet(flags, more, count),
+    )
 }
 
 // A flag byte, `more` and a payload.
@@ -124,10 +127,10 @@ fn call(bytes: &mut [u8; BYTES_LIMIT], end: usize) -> Frame
         Operation::Ad => lending(Asked::Call(flags, more), end),
         Operation::Ratchet => ratchet(flags, more, bytes, end),
         Operation::Key => lending(Asked::Call(flags, more), end),
-        Operation::Prf => draw(flags, more, bytes, end),
+        Operation::Prf => output(flags, more, bytes, end),
         Operation::SendClr => lending(Asked::Call(flags, more), end),
         Operation::RecvClr => lending(Asked::Call(flags, more), end),
-        Operation::SendMac => draw(flags, more, bytes, end),
+        Operation::SendMac => output(flags, more, bytes, end),
         Operation::RecvMac => lending(Asked::Call(flags, more), end),
         Operation::SendEnc => lending(Asked::Call(flags, more), end),
         Operation::RecvEnc => lending(Asked::Call(flags, more), end),

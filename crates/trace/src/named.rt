@@ -11,15 +11,8 @@ fn create(name: &[u8], level: u8) -> Outcome {
     match level {
         0x01 => Session::new(name, Level::B128),
         0x02 => Session::new(name, Level::B256),
-        _ => Session::create(name, 0),
+        _ => Session::create(name, numbered::level_number(level)),
     }
-}
-
-pub fn ratchet(session: Session, flags: Flags, more: bool, count: usize) -> Outcome {
-    if flags.has(Flags::M) {
-        return session.meta_ratchet(count, more);
-    }
-    session.ratchet(count, more)
 }
 
 // A received MAC carried on has no name.
@@ -27,7 +20,7 @@ fn operate(session: Session, flags: Flags, more: bool, buf: &mut [u8]) -> Outcom
     let byte = flags.0;
     match byte {
         0x02 => session.ad(buf, more),
-        0x04 | 0x14 => ratchet(session, flags, more, buf.len()),
+        0x04 | 0x14 => numbered::ratchet(session, flags, more, buf.len()),
         0x06 => session.key(buf, more),
         0x07 => session.prf(buf, more),
         0x0a => session.send_clr(buf, more),

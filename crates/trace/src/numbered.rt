@@ -1,6 +1,6 @@
 // The call that a line asks for, by number.
 use crate::frame::Asked;
-use crate::named;
+use strobe::Flags;
 use strobe::Outcome;
 use strobe::Session;
 
@@ -21,13 +21,17 @@ pub fn told(outcome: Outcome) -> Called {
     }
 }
 
-// The level of a level byte; 0 is none.
-fn level_of(byte: u8) -> usize {
-    match byte {
-        0x01 => 128,
-        0x02 => 256,
-        _ => 0,
+// The level number of a level byte. Only 01 and 02 give a level's.
+pub fn level_number(byte: u8) -> usize {
+    byte as usize * 128
+}
+
+// A ratchet whose count no buffer here is as long as has to be called by its name.
+pub fn ratchet(session: Session, flags: Flags, more: bool, count: usize) -> Outcome {
+    if flags.has(Flags::M) {
+        return session.meta_ratchet(count, more);
     }
+    session.ratchet(count, more)
 }
 
 pub fn call(session: Session, asked: Asked, lent: &mut [u8]) -> Called {
@@ -36,11 +40,9 @@ pub fn call(session: Session, asked: Asked, lent: &mut [u8]) -> Called {
             session,
             answer: BAD_LINE,
         },
-        Asked::Create(level) => told(Session::create(lent, level_of(level))),
+        Asked::Create(level) => told(Session::create(lent, level_number(level))),
         Asked::Call(flags, more) => told(session.call(flags, more, lent)),
-        Asked::LongRatchet(flags, more, count) => {
-            told(named::ratchet(session, flags, more, count))
-        }
+        Asked::LongRatchet(flags, more, count) => { told(ratchet(session, flags, more, count)) }
         Asked::Save => {
             let answer = saved::save(session, lent);
             Called {

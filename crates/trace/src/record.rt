@@ -2,19 +2,20 @@
 ghost use mathlib.Core.Path.{_≡_};
 ghost use Prim.Native.Nat.{_+_, _*_, _≤_};
 ghost use lib.ListN.{length};
-ghost use Rattle.trace.specs.Bounds.{outSize, recordSize};
+ghost use Rattle.trace.specs.Bounds.{outSize, headSize, recordSize};
 use crate::bounds::OUT_SIZE;
 use crate::digits;
 use crate::numbered::Called;
 use strobe::Direction;
 use strobe::Last;
+use strobe::Session;
 
 // Every position is below 256, which its type does not say.
-fn place(pos: usize) -> [u8; 2] {
+fn position_digits(pos: usize) -> [u8; 2] {
     digits::of((pos % 256) as u8)
 }
 
-fn end(direction: Direction) -> u8 {
+fn direction_digit(direction: Direction) -> u8 {
     match direction {
         Direction::Neither => b'0',
         Direction::Sender => b'1',
@@ -22,30 +23,25 @@ fn end(direction: Direction) -> u8 {
     }
 }
 
-fn flags(last: Last) -> [u8; 2] {
+fn last_digits(last: Last) -> [u8; 2] {
     match last {
         Last::Nothing => *b"--",
         Last::Op(f) => digits::of(f.0),
     }
 }
 
-// The parts before the lent bytes, with the space behind each.
-fn head(called: Called) -> [u8; 18] {
-    let session = called.session;
+fn answer_digits(answer: u8) -> [u8; 3] {
+    [b'0' + answer / 10, b'0' + answer % 10, b' ']
+}
+
+// The parts between the version text and the lent bytes, with a space before and behind each.
+fn parts(session: Session) -> [u8; 12] {
     let direction = session.direction;
     let last = session.last;
-    let answer = called.answer;
-    let version = session.version_str();
-    let pos = place(session.pos);
-    let begin = place(session.begin);
-    let op = flags(last);
+    let pos = position_digits(session.pos);
+    let begin = position_digits(session.begin);
+    let op = last_digits(last);
     [
-        b'0' + answer / 10,
-        b'0' + answer % 10,
-        b' ',
-        version[14],
-        version[15],
-        version[16],
         b' ',
         pos[0],
         pos[1],
@@ -53,7 +49,7 @@ fn head(called: Called) -> [u8; 18] {
         begin[0],
         begin[1],
         b' ',
-        end(direction),
+        direction_digit(direction),
         b' ',
         op[0],
         op[1],
@@ -74,6 +70,17 @@ pub fn write_text(text: &[u8], out: &mut [u8; OUT_SIZE], at: usize) -> usize
     at + i
 }
 
+// What stands before the lent bytes.
+fn write_head(called: Called, out: &mut [u8; OUT_SIZE], at: usize) -> usize
+    requires { ⌜ at + headSize ≤ outSize ⌝ }
+    ensures { λ r. ⌜ r ≡ at + headSize ⌝ }
+{
+    let session = called.session;
+    let version = write_text(&answer_digits(called.answer), out, at);
+    let behind = write_text(&session.version_str(), out, version);
+    write_text(&parts(session), out, behind)
+}
+
 // The whole line, newline and all.
 pub fn write(called: Called, lent: &[u8], out: &mut [u8; OUT_SIZE], at: usize) -> usize
     requires { ⌜ at + 2 * length (now lent) + recordSize ≤ outSize ⌝ }
@@ -81,7 +88,7 @@ pub fn write(called: Called, lent: &[u8], out: &mut [u8; OUT_SIZE], at: usize) -
 {
     let session = called.session;
     let state = session.state;
-    let mut put = write_text(&head(called), out, at);
+    let mut put = write_head(called, out, at);
     put = digits::write(lent, out, put);
     put = write_text(b" ", out, put);
     put = digits::write(&state, out, put);

@@ -83,12 +83,10 @@ fn traced(
 {
     let asked = frame.asked;
     let end = frame.end;
-    let shown = frame.shown;
     let mut buffer = bytes;
     let lent = &mut buffer[2..end];
     let called = call(way, session, asked, lent);
-    let all = &lent[..];
-    let behind = record::write(called, &all[0..shown], out, put);
+    let behind = record::write(called, lent, out, put);
     let next = called.session;
     let place = Place {
         session: next,

@@ -1,12 +1,9 @@
 //! Where a block ends, and where a call or a line is as long as it may be.
 
-use super::{Taken, LEVELS};
+use super::{Offering, LEVELS};
 use crate::draw::Draw;
 use crate::pen::Pen;
-use crate::rules::{rate, AD, M, MAC_LIMIT, OPERATIONS, PAYLOAD_LIMIT, PRF, RATCHET, RATCHET_LIMIT, RECV_MAC};
-
-/// The flag C: the block is closed when the operation is opened.
-const C: u8 = 0x04;
+use crate::rules::{operations, rate, AD, C, M, MAC_LIMIT, PAYLOAD_LIMIT, PRF, RATCHET, RATCHET_LIMIT, RECV_MAC};
 
 /// A session at this position. Its begin position is that of the name, or of an ad behind an empty name.
 fn at(draw: &mut Draw, level: u8, position: usize) -> Pen {
@@ -20,14 +17,15 @@ fn at(draw: &mut Draw, level: u8, position: usize) -> Pen {
 }
 
 /// Each operation from each position, empty, short, and up to the end of the block, one byte less and one more.
-pub fn positions(taken: &mut Taken) {
+pub fn positions(offering: &mut Offering) {
     for level in LEVELS {
         for position in 0..rate(level) {
-            for flags in OPERATIONS {
+            for flags in operations() {
+                // C closes the block when the operation is opened
                 let opened = if flags & C != 0 { 0 } else { (position + 2) % rate(level) };
                 let left = rate(level) - opened;
                 for length in [0, 1, left - 1, left, left + 1] {
-                    taken.offer(|draw| {
+                    offering.offer(|draw| {
                         let mut pen = at(draw, level, position);
                         pen.operation(draw, flags, false, length);
                         pen.operation(draw, PRF, false, 4);
@@ -47,15 +45,15 @@ pub fn around(level: u8) -> Vec<usize> {
 }
 
 /// Names and data of these lengths, the operation done twice, then gone on with.
-pub fn lengths(taken: &mut Taken) {
+pub fn lengths(offering: &mut Offering) {
     for level in LEVELS {
-        for flags in OPERATIONS {
+        for flags in operations() {
             for length in around(level).repeat(4) {
-                taken.offer(|draw| {
-                    let name = draw.one_of(&around(level));
+                offering.offer(|draw| {
+                    let name = draw.pick(&around(level));
                     let mut pen = Pen::of(level, draw.bytes(name));
                     pen.operation(draw, flags, false, length);
-                    let next = draw.one_of(&around(level));
+                    let next = draw.pick(&around(level));
                     pen.operation(draw, flags, false, next);
                     let last = draw.below(4);
                     pen.operation(draw, flags, true, last);
@@ -68,7 +66,7 @@ pub fn lengths(taken: &mut Taken) {
 }
 
 /// Counts of ratchets and lengths of MACs, with `more` off and on.
-pub fn limits(taken: &mut Taken) {
+pub fn limits(offering: &mut Offering) {
     let counts = [RATCHET_LIMIT - 1, RATCHET_LIMIT, RATCHET_LIMIT + 1, 1 << 24, u32::MAX as usize];
     let macs = (0..=MAC_LIMIT + 2).chain([128, PAYLOAD_LIMIT]);
     let ratchets = counts.into_iter().map(|count| (RATCHET, count));
@@ -76,10 +74,10 @@ pub fn limits(taken: &mut Taken) {
     for level in LEVELS {
         for (plain, length) in calls.repeat(4) {
             for more in [false, true] {
-                taken.offer(|draw| {
-                    let flags = plain | draw.one_of(&[0, M]);
+                offering.offer(|draw| {
+                    let flags = plain | draw.pick(&[0, M]);
                     let mut pen = Pen::of(level, draw.bytes(5));
-                    let before = draw.one_of(&[flags, flags, flags ^ M]);
+                    let before = draw.pick(&[flags, flags, flags ^ M]);
                     pen.operation(draw, before, false, 16);
                     pen.operation(draw, flags, more, length);
                     pen.operation(draw, PRF, false, 4);

@@ -1,30 +1,30 @@
 //! Long sequences of drawn lines.
 
 use super::boundaries::around;
-use super::lines::spoilt;
-use super::{Taken, LEVELS};
+use super::lines::later_line;
+use super::{Offering, LEVELS};
 use crate::draw::Draw;
 use crate::line::Line;
 use crate::pen::Pen;
-use crate::rules::{plain, FORM_SIZE, MAC_LIMIT, OPERATIONS, RATCHET, RATCHET_LIMIT, RECV_MAC};
+use crate::rules::{operations, plain, FORM_SIZE, MAC_LIMIT, RATCHET, RATCHET_LIMIT, RECV_MAC};
 
-const CASES: usize = 9_000;
+const CASES: usize = 11_500;
 const LINES: usize = 80;
 
 /// Mostly few bytes, at times more than a block, seldom many.
 fn length(draw: &mut Draw, level: u8) -> usize {
-    let limit = draw.one_of(&[1, 4, 20, 40, 40, 80, 180, 400]);
+    let limit = draw.pick(&[1, 4, 20, 40, 40, 80, 180, 400]);
     if draw.once_in(60) {
-        draw.one_of(&around(level))
+        draw.pick(&around(level))
     } else {
         draw.below(limit)
     }
 }
 
-/// A MAC of any length; a ratchet now and then longer than it may be.
+/// A MAC or a ratchet is now and then longer than it may be.
 fn operation(draw: &mut Draw, pen: &mut Pen, flags: u8, more: bool, level: u8) {
     let length = match plain(flags) {
-        RECV_MAC => draw.one_of(&[0, 1, 8, 16, 16, 32, MAC_LIMIT, MAC_LIMIT + 1]),
+        RECV_MAC => draw.pick(&[0, 1, 8, 16, 16, 32, MAC_LIMIT, MAC_LIMIT + 1]),
         RATCHET if draw.once_in(20) => RATCHET_LIMIT + 1 + draw.below(9),
         _ => length(draw, level),
     };
@@ -38,18 +38,9 @@ fn call(draw: &mut Draw, pen: &mut Pen, level: u8) {
     let flags = match last {
         Some(last) if more && !draw.once_in(6) => last,
         _ if draw.once_in(12) => draw.number() as u8,
-        _ => draw.one_of(&OPERATIONS),
+        _ => draw.pick(&operations()),
     };
     operation(draw, pen, flags, more, level);
-}
-
-/// A line that is out of shape, or a call that only looks so.
-fn spoil(draw: &mut Draw, pen: &mut Pen) {
-    let flags = draw.one_of(&OPERATIONS);
-    let length = draw.below(20);
-    let bytes = draw.bytes(length);
-    let line = Line::of(flags, draw.once_in(2), &bytes, length);
-    pen.write(spoilt(draw, line));
 }
 
 /// What was saved is loaded later; at times it is damaged, so that all is refused until a good one is loaded.
@@ -77,7 +68,7 @@ fn sequence(draw: &mut Draw, level: u8, saves: bool) -> Pen {
     let mut kept = pen.session().form().expect("a session").to_vec();
     for _ in 0..LINES {
         match draw.below(24) {
-            0 => spoil(draw, &mut pen),
+            0 => later_line(draw, &mut pen),
             1 | 2 if saves => overnight(draw, &mut pen, &mut kept),
             _ => call(draw, &mut pen, level),
         }
@@ -85,9 +76,9 @@ fn sequence(draw: &mut Draw, level: u8, saves: bool) -> Pen {
     pen
 }
 
-pub fn sequences(taken: &mut Taken) {
-    for number in 0..CASES * taken.share.times {
+pub fn sequences(offering: &mut Offering) {
+    for number in 0..CASES * offering.share.times {
         let level = LEVELS[number % 2];
-        taken.offer(|draw| sequence(draw, level, number % 4 < 2).case());
+        offering.offer(|draw| sequence(draw, level, number % 4 < 2).case());
     }
 }

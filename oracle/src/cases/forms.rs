@@ -1,10 +1,10 @@
 //! Saved forms: buffers of every length near theirs, and damaged copies of good ones.
 
-use super::{Taken, LEVELS};
+use super::{Offering, LEVELS};
 use crate::draw::Draw;
 use crate::line::Line;
 use crate::pen::Pen;
-use crate::rules::{FORM_SIZE, OPERATIONS, PRF};
+use crate::rules::{operations, FORM_SIZE, PRF};
 
 /// The edition, the level, both positions and the direction.
 const HEAD: usize = 5;
@@ -14,7 +14,7 @@ fn begun(draw: &mut Draw, level: u8) -> Pen {
     let name = draw.below(180);
     let mut pen = Pen::of(level, draw.bytes(name));
     for _ in 0..draw.below(2) + 1 {
-        let flags = draw.one_of(&OPERATIONS);
+        let flags = draw.pick(&operations());
         let length = draw.below(60);
         pen.operation(draw, flags, false, length);
     }
@@ -34,8 +34,8 @@ fn form(pen: &Pen) -> Vec<u8> {
 }
 
 /// Saved, loaded from a damaged copy, and loaded again from the good one.
-fn loaded(taken: &mut Taken, level: u8, damage: impl Fn(&mut Vec<u8>)) {
-    taken.offer(|draw| {
+fn loaded(offering: &mut Offering, level: u8, damage: impl Fn(&mut Vec<u8>)) {
+    offering.offer(|draw| {
         let mut pen = begun(draw, level);
         let good = form(&pen);
         let buffer = draw.bytes(FORM_SIZE);
@@ -49,19 +49,19 @@ fn loaded(taken: &mut Taken, level: u8, damage: impl Fn(&mut Vec<u8>)) {
 }
 
 /// Each value of each byte of the head; one bit of each byte of the state; each length up to a few bytes more.
-pub fn forms(taken: &mut Taken) {
+pub fn forms(offering: &mut Offering) {
     for level in LEVELS {
         for at in 0..HEAD {
             for value in 0..=255 {
-                loaded(taken, level, |bytes| bytes[at] = value);
+                loaded(offering, level, |bytes| bytes[at] = value);
             }
         }
         for at in HEAD..FORM_SIZE {
-            loaded(taken, level, |bytes| bytes[at] ^= 1 << (at % 8));
+            loaded(offering, level, |bytes| bytes[at] ^= 1 << (at % 8));
         }
         for length in 0..FORM_SIZE + 5 {
-            loaded(taken, level, |bytes| bytes.resize(length, 0));
-            taken.offer(|draw| {
+            loaded(offering, level, |bytes| bytes.resize(length, 0));
+            offering.offer(|draw| {
                 let mut pen = begun(draw, level);
                 let buffer = draw.bytes(length);
                 pen.write(Line::Save(buffer));

@@ -1,17 +1,17 @@
 //! Received MACs: the right one, and damaged copies of it.
 
-use super::{Taken, LEVELS};
+use super::{Offering, LEVELS};
 use crate::draw::Draw;
 use crate::line::Line;
 use crate::pen::Pen;
-use crate::rules::{I, M, MAC_LIMIT, OPERATIONS, PRF, RECV_MAC};
+use crate::rules::{operations, I, M, MAC_LIMIT, PRF, RECV_MAC};
 
 /// A session behind some operations, so that it may be a sender, a receiver or neither.
 fn before(draw: &mut Draw, level: u8) -> Pen {
     let name = draw.below(20);
     let mut pen = Pen::of(level, draw.bytes(name));
     for _ in 0..draw.below(3) {
-        let flags = draw.one_of(&OPERATIONS);
+        let flags = draw.pick(&operations());
         let length = draw.below(40);
         pen.operation(draw, flags, false, length);
     }
@@ -36,11 +36,11 @@ fn damaged(draw: &mut Draw, pen: &Pen, flags: u8, length: usize) -> Vec<u8> {
 }
 
 /// Of each length: a wrong one, then a right one, whose session has taken the wrong one in.
-pub fn macs(taken: &mut Taken) {
+pub fn macs(offering: &mut Offering) {
     for level in LEVELS {
         for length in (0..=MAC_LIMIT).collect::<Vec<_>>().repeat(12) {
             for flags in [RECV_MAC, RECV_MAC | M] {
-                taken.offer(|draw| {
+                offering.offer(|draw| {
                     let mut pen = before(draw, level);
                     let wrong = damaged(draw, &pen, flags, length);
                     pen.write(Line::Call { flags, more: false, bytes: wrong });

@@ -21,49 +21,55 @@ pub struct Share {
 /// All of them.
 pub const ALL: Share = Share { one_of: 1, times: 1 };
 
-/// Takes the cases of one family.
-pub struct Taken<'a> {
+pub struct Family {
+    pub name: &'static str,
+    /// its cases without saves and loads go through the journal program too
+    pub is_journal: bool,
+    offer: fn(&mut Offering),
+}
+
+static FAMILIES: [Family; 12] = [
+    Family { name: "pairs of operations of 0 to 3 bytes", is_journal: false, offer: short::pairs },
+    Family { name: "every flag byte", is_journal: false, offer: short::flag_bytes },
+    Family { name: "every value of a byte", is_journal: false, offer: short::byte_values },
+    Family { name: "every position", is_journal: false, offer: boundaries::positions },
+    Family { name: "lengths around the boundaries", is_journal: false, offer: boundaries::lengths },
+    Family { name: "the limits of a call", is_journal: false, offer: boundaries::limits },
+    Family { name: "operations in pieces", is_journal: false, offer: streams::streams },
+    Family { name: "MACs, right and damaged", is_journal: false, offer: macs::macs },
+    Family { name: "saved forms, right and damaged", is_journal: false, offer: forms::forms },
+    Family { name: "first lines", is_journal: false, offer: lines::first_lines },
+    Family { name: "lines out of shape", is_journal: true, offer: lines::spoilt_lines },
+    Family { name: "drawn sequences", is_journal: true, offer: drawn::sequences },
+];
+
+/// Offers the cases of one family.
+pub struct Offering<'a> {
     share: Share,
-    family: u64,
-    offered: u64,
-    name: &'static str,
-    /// gets a case with its family's name, and says whether it wants another
-    take: &'a mut dyn FnMut(&'static str, Case) -> bool,
+    family: &'static Family,
+    seed: u64,
+    /// gets a case with its family, and says whether it wants another
+    take: &'a mut dyn FnMut(&'static Family, Case) -> bool,
     wants: &'a mut bool,
 }
 
-impl Taken<'_> {
-    pub fn offer(&mut self, make: impl FnOnce(&mut Draw) -> Case) {
-        self.offered += 1;
-        let mut draw = Draw::new(self.family << 32 | self.offered);
-        if *self.wants && draw.once_in(self.share.one_of) {
-            *self.wants = (self.take)(self.name, make(&mut draw));
+impl Offering<'_> {
+    fn offer(&mut self, make: impl FnOnce(&mut Draw) -> Case) {
+        self.seed += 1;
+        let mut draw = Draw::new(self.seed);
+        if *self.wants && draw.below(self.share.one_of) == 0 {
+            *self.wants = (self.take)(self.family, make(&mut draw));
         }
     }
 }
 
-type Family = fn(&mut Taken);
-
-const FAMILIES: [(&str, Family); 11] = [
-    ("pairs of operations of 0 to 3 bytes", short::pairs),
-    ("every flag byte", short::flag_bytes),
-    ("every value of a byte", short::byte_values),
-    ("every position", boundaries::positions),
-    ("lengths around the boundaries", boundaries::lengths),
-    ("the limits of a call", boundaries::limits),
-    ("operations in pieces", streams::streams),
-    ("MACs, right and damaged", macs::macs),
-    ("saved forms, right and damaged", forms::forms),
-    ("first lines", lines::first_lines),
-    ("drawn sequences", drawn::sequences),
-];
-
 /// The cases of all families, as long as they are wanted.
-pub fn each(share: Share, take: &mut dyn FnMut(&'static str, Case) -> bool) {
+pub fn each(share: Share, take: &mut dyn FnMut(&'static Family, Case) -> bool) {
     let mut wants = true;
-    for (family, (name, offer)) in (0..).zip(FAMILIES) {
-        offer(&mut Taken { share, family, offered: 0, name, take: &mut *take, wants: &mut wants });
+    for (number, family) in (0..).zip(&FAMILIES) {
+        let seed = number << 32;
+        (family.offer)(&mut Offering { share, family, seed, take: &mut *take, wants: &mut wants });
     }
 }
 
-pub const LEVELS: [u8; 2] = [1, 2];
+const LEVELS: [u8; 2] = [1, 2];

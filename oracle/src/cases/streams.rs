@@ -1,19 +1,22 @@
 //! Operations cut into pieces.
 
 use super::boundaries::around;
-use super::{Taken, LEVELS};
+use super::{Offering, LEVELS};
 use crate::draw::Draw;
 use crate::pen::Pen;
-use crate::rules::{plain, K, M, OPERATIONS, PRF, RECV_MAC};
+use crate::rules::{operations, plain, K, M, PRF, RECV_MAC};
 
 const TIMES: usize = 60;
+
+/// A flag byte that is none of the twenty.
+const NO_OPERATION: u8 = 0x05;
 
 /// Short, some blocks, or around a boundary.
 fn length(draw: &mut Draw, level: u8) -> usize {
     match draw.below(3) {
         0 => draw.below(40),
         1 => draw.below(1000),
-        _ => draw.one_of(&around(level)),
+        _ => draw.pick(&around(level)),
     }
 }
 
@@ -22,7 +25,7 @@ fn refused(draw: &mut Draw, pen: &mut Pen, flags: u8) {
     match draw.below(4) {
         0 => pen.operation(draw, flags | K, true, 3),
         1 => pen.operation(draw, flags ^ M, true, 3),
-        2 => pen.operation(draw, 0x05, true, 3),
+        2 => pen.operation(draw, NO_OPERATION, true, 3),
         _ => pen.operation(draw, RECV_MAC, true, 3),
     }
 }
@@ -42,13 +45,13 @@ fn in_pieces(draw: &mut Draw, pen: &mut Pen, flags: u8, whole: usize) {
 }
 
 /// Each operation but a received MAC, which can't be cut.
-pub fn streams(taken: &mut Taken) {
+pub fn streams(offering: &mut Offering) {
     for level in LEVELS {
-        for flags in OPERATIONS.repeat(TIMES) {
+        for flags in operations().repeat(TIMES) {
             if plain(flags) == RECV_MAC {
                 continue;
             }
-            taken.offer(|draw| {
+            offering.offer(|draw| {
                 let name = draw.below(200);
                 let mut pen = Pen::of(level, draw.bytes(name));
                 let whole = length(draw, level);

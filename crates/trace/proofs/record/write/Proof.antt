@@ -12,9 +12,8 @@ state-length z = search needs
 pub write-spec : {M : Type 1} → statement M
 write-spec =
     tie.close
-    (tie.spec (λ c κs. search needs) (λ c. search needs) (λ c κs. search needs) (λ c κs. search needs) (λ c. search needs) (λ c κs. search needs)
+    (tie.spec (λ c κs. search needs) (λ c κs. search needs) (λ c. search needs) (λ c κs. search needs) (λ c. search needs)
+    (λ c κs. omega (arith, state-length (c .before .before .before .before .before .before .before .before .before .before .before .before)))
     (λ c. search needs)
-    (λ c κs. omega (arith, state-length (c .before .before .before .before .before .before .before .before .before .before .before .before .before .before)))
-    (λ c. search needs)
-    (λ c κs. omega (arith, state-length (c .before .before .before .before .before .before .before .before .before .before .before .before .before .before .before .before .before)))
-    (λ c. omega (arith, state-length (c .before .before .before .before .before .before .before .before .before .before .before .before .before .before .before .before .before .before))))
+    (λ c κs. omega (arith, state-length (c .before .before .before .before .before .before .before .before .before .before .before .before .before .before .before)))
+    (λ c. omega (arith, state-length (c .before .before .before .before .before .before .before .before .before .before .before .before .before .before .before .before))))
