@@ -50,7 +50,7 @@ compile_strobe_rs() {
 }
 
 prepare() {
-    command -v rustc > /dev/null || absent "rustc, the Rust compiler, is not on PATH"
+    rustc --version > /dev/null 2>&1 || absent "rustc, the Rust compiler, is not on PATH or does not run"
     command -v cc > /dev/null || absent "cc, which rustc links with, is not on PATH"
     if [ ! -f "$strobe_rs/src/strobe.rs" ] || [ ! -f "$strobe_rs/src/keccak.rs" ]; then
         [ -z "${STROBE_RS:-}" ] || fail "STROBE_RS is $STROBE_RS, and its src has no strobe.rs and keccak.rs"
