@@ -1,5 +1,5 @@
 -- The sizes that the contracts cite. Assumes nothing.
-use Prim.Native.Nat.{ℕ, _+_, _≤_}
+use Prim.Native.Nat.{ℕ, _≤_}
 use Rattle.trace.specs.declared.frame.Frame.{Frame}
 
 -- of the buffers for a line's characters, for its bytes, and for the output

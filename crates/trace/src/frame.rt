@@ -68,48 +68,29 @@ fn fill(bytes: &mut [u8; BYTES_LIMIT], end: usize)
     }
 }
 
-// The payload is a count of four bytes, and the buffer is as long as they say. There is none for a larger count: what is asked for then is `otherwise`.
+// A prf, a send_mac or a ratchet: the payload is a count of four bytes, and the buffer is as long as they say. For a larger count there is none, which only a
+// ratchet can do without.
 fn counted(
     flags: Flags,
     more: bool,
+    is_ratchet: bool,
     bytes: &mut [u8; BYTES_LIMIT],
-    count: usize,
-    otherwise: Asked,
+    end: usize,
 ) -> Frame
     ensures { λ r. ⌜ Inside r ⌝ }
 {
-    if count > LENT_LIMIT {
-        return lending(otherwise, 2);
-    }
-    fill(bytes, 2 + count);
-    lending(Asked::Call(flags, more), 2 + count)
-}
-
-// A prf or a send_mac.
-fn output(flags: Flags, more: bool, bytes: &mut [u8; BYTES_LIMIT], end: usize) -> Frame
-    ensures { λ r. ⌜ Inside r ⌝ }
-{
     if end != 6 {
         return bad();
     }
     let count = count_of(bytes[2], bytes[3], bytes[4], bytes[5]);
-    counted(flags, more, bytes, count, Asked::Nothing)
-}
-
-fn ratchet(flags: Flags, more: bool, bytes: &mut [u8; BYTES_LIMIT], end: usize) -> Frame
-    ensures { λ r. ⌜ Inside r ⌝ }
-{
-    if end != 6 {
-        return bad();
+    if count <= LENT_LIMIT {
+        fill(bytes, 2 + count);
+        return lending(Asked::Call(flags, more), 2 + count);
     }
-    let count = count_of(bytes[2], bytes[3], bytes[4], bytes[5]);
-    counted(
-        flags,
-        more,
-        bytes,
-        count,
-        Asked::LongRatchet(flags, more, count),
-    )
+    if is_ratchet {
+        return lending(Asked::LongRatchet(flags, more, count), 2);
+    }
+    bad()
 }
 
 // A flag byte, `more` and a payload.
@@ -125,12 +106,12 @@ fn call(bytes: &mut [u8; BYTES_LIMIT], end: usize) -> Frame
     }
     match operation {
         Operation::Ad => lending(Asked::Call(flags, more), end),
-        Operation::Ratchet => ratchet(flags, more, bytes, end),
+        Operation::Ratchet => counted(flags, more, true, bytes, end),
         Operation::Key => lending(Asked::Call(flags, more), end),
-        Operation::Prf => output(flags, more, bytes, end),
+        Operation::Prf => counted(flags, more, false, bytes, end),
         Operation::SendClr => lending(Asked::Call(flags, more), end),
         Operation::RecvClr => lending(Asked::Call(flags, more), end),
-        Operation::SendMac => output(flags, more, bytes, end),
+        Operation::SendMac => counted(flags, more, false, bytes, end),
         Operation::RecvMac => lending(Asked::Call(flags, more), end),
         Operation::SendEnc => lending(Asked::Call(flags, more), end),
         Operation::RecvEnc => lending(Asked::Call(flags, more), end),

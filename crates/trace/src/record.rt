@@ -10,9 +10,12 @@ use strobe::Direction;
 use strobe::Last;
 use strobe::Session;
 
-// Every position is below 256, which its type does not say.
+// A position that two digits can't say is no session's, and has to be seen.
 fn position_digits(pos: usize) -> [u8; 2] {
-    digits::of((pos % 256) as u8)
+    if pos > 255 {
+        return *b"??";
+    }
+    digits::of(pos as u8)
 }
 
 fn direction_digit(direction: Direction) -> u8 {
