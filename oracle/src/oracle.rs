@@ -6,7 +6,7 @@ use crate::rules;
 use strobe_rs::{Parts, SecParam, Strobe};
 
 /// What the buffer of a prf, a sent MAC or a ratchet holds before the call.
-pub const FILL: u8 = 0xa5;
+const FILL: u8 = 0xa5;
 
 pub struct Answer {
     pub number: u8,

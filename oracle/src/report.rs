@@ -157,6 +157,6 @@ impl fmt::Display for Report {
             self.calls(),
             self.answered
         )?;
-        writeln!(out, "Journals: {} of {} lines.", self.journals, self.journal_lines)
+        writeln!(out, "Journals: {}, with {} lines in all.", self.journals, self.journal_lines)
     }
 }
