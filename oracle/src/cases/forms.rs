@@ -1,25 +1,13 @@
 //! Saved forms: buffers of every length near theirs, and damaged copies of good ones.
 
-use super::{Offering, LEVELS};
+use super::{begun, Offering, LEVELS};
 use crate::draw::Draw;
 use crate::line::Line;
 use crate::pen::Pen;
-use crate::rules::{operations, FORM_SIZE, PRF};
+use crate::rules::{FORM_SIZE, PRF};
 
 /// The edition, the level, both positions and the direction.
 const HEAD: usize = 5;
-
-/// A session behind one or two operations.
-fn begun(draw: &mut Draw, level: u8) -> Pen {
-    let name = draw.below(180);
-    let mut pen = Pen::of(level, draw.bytes(name));
-    for _ in 0..draw.below(2) + 1 {
-        let flags = draw.pick(&operations());
-        let length = draw.below(60);
-        pen.operation(draw, flags, false, length);
-    }
-    pen
-}
 
 /// Loads these bytes, goes on with what was last, which is refused, and draws.
 fn load(draw: &mut Draw, pen: &mut Pen, bytes: Vec<u8>) {

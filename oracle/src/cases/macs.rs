@@ -1,24 +1,12 @@
 //! Received MACs: the right one, and damaged copies of it.
 
-use super::{Offering, LEVELS};
+use super::{begun, Offering, LEVELS};
 use crate::draw::Draw;
 use crate::line::Line;
 use crate::pen::Pen;
-use crate::rules::{operations, I, M, MAC_LIMIT, PRF, RECV_MAC};
+use crate::rules::{I, M, MAC_LIMIT, PRF, RECV_MAC};
 
-/// A session behind some operations, so that it may be a sender, a receiver or neither.
-fn before(draw: &mut Draw, level: u8) -> Pen {
-    let name = draw.below(20);
-    let mut pen = Pen::of(level, draw.bytes(name));
-    for _ in 0..draw.below(3) {
-        let flags = draw.pick(&operations());
-        let length = draw.below(40);
-        pen.operation(draw, flags, false, length);
-    }
-    pen
-}
-
-/// A copy with one bit other, without its last byte, with one byte more, or as the other form of the operation would have it.
+/// A copy without its last byte, with one byte more, as the other form of the operation would have it, of zeros, or with one bit other.
 fn damaged(draw: &mut Draw, pen: &Pen, flags: u8, length: usize) -> Vec<u8> {
     let mut mac = pen.session().right_mac(flags, length);
     match draw.below(8) {
@@ -26,11 +14,11 @@ fn damaged(draw: &mut Draw, pen: &Pen, flags: u8, length: usize) -> Vec<u8> {
         1 => mac.push(draw.number() as u8),
         2 => mac = pen.session().right_mac(flags ^ M, length),
         3 => mac.fill(0),
-        _ => {
-            if let Some(at) = length.checked_sub(1).map(|last| draw.below(last + 1)) {
-                mac[at] ^= 1 << draw.below(8);
-            }
+        _ if length > 0 => {
+            let at = draw.below(length);
+            mac[at] ^= 1 << draw.below(8);
         }
+        _ => {}
     }
     mac
 }
@@ -41,7 +29,7 @@ pub fn macs(offering: &mut Offering) {
         for length in (0..=MAC_LIMIT).collect::<Vec<_>>().repeat(12) {
             for flags in [RECV_MAC, RECV_MAC | M] {
                 offering.offer(|draw| {
-                    let mut pen = before(draw, level);
+                    let mut pen = begun(draw, level);
                     let wrong = damaged(draw, &pen, flags, length);
                     pen.write(Line::Call { flags, more: false, bytes: wrong });
                     let right = pen.session().right_mac(flags, length);

@@ -9,7 +9,8 @@ mod short;
 mod streams;
 
 use crate::draw::Draw;
-use crate::pen::Case;
+use crate::pen::{Case, Pen};
+use crate::rules::operations;
 
 /// How many cases are wanted: one of so many, by lot, and of the drawn sequences so many times as many.
 #[derive(Clone, Copy)]
@@ -73,3 +74,15 @@ pub fn each(share: Share, take: &mut dyn FnMut(&'static Family, Case) -> bool) {
 }
 
 const LEVELS: [u8; 2] = [1, 2];
+
+/// A session behind up to two operations, so that it may be a sender, a receiver or neither.
+fn begun(draw: &mut Draw, level: u8) -> Pen {
+    let name = draw.below(180);
+    let mut pen = Pen::of(level, draw.bytes(name));
+    for _ in 0..draw.below(3) {
+        let flags = draw.pick(&operations());
+        let length = draw.below(60);
+        pen.operation(draw, flags, false, length);
+    }
+    pen
+}
