@@ -24,32 +24,38 @@ pub rounds-next : (l n : ℕ) (A : Array) → rounds l 0 (suc n) A ≡ rnd l n (
 unfolding rounds
 rounds-next l n A = ap (λ (ir : ℕ). rnd l ir (rounds l 0 n A)) (add-zero n)
 
-module _ (l ir : ℕ) (a : List ℕ) (f : Fits (2 ^ l) a) where
-  -- the lanes after theta, rho, pi and chi
-  abbrev four : List ℕ
-  four = chiL (2 ^ l) (piL (rhoL (2 ^ l) (thetaL (2 ^ l) a)))
+-- the lanes after theta, rho and pi
+module _ (w : ℕ) (a : List ℕ) (f : Fits w a) where
+  pub three-fits : Fits w (piL (rhoL w (thetaL w a)))
+  three-fits = let t = thetaL w a in S.pi-fits w (rhoL w t) (S.rho-fits w t (S.theta-fits w a f))
 
-  abbrev fourA : Array
-  fourA = chi (pi (rho (2 ^ l) (theta (2 ^ l) (bitsOf a))))
-
-  four-fits : Fits (2 ^ l) four
-  four-fits =
-      let w = 2 ^ l in
-      let t = thetaL w a in
-      S.chi-fits w (piL (rhoL w t)) (S.pi-fits w (rhoL w t) (S.rho-fits w t (S.theta-fits w a f)))
-
-  four-bits : Same (2 ^ l) (bitsOf four) fourA
-  four-bits =
-      let w = 2 ^ l in
+  pub three-bits : Same w (bitsOf (piL (rhoL w (thetaL w a)))) (pi (rho w (theta w (bitsOf a))))
+  three-bits =
       let A = bitsOf a in
       let t = thetaL w a in
       let r = rhoL w t in
-      let p = piL r in
       let ft : Fits w t = S.theta-fits w a f in
-      let fr : Fits w r = S.rho-fits w t ft in
       let br = same-trans w (bitsOf r) (rho w (bitsOf t)) (rho w (theta w A)) (S.rho-bits w t ft) (S.rho-same w (bitsOf t) (theta w A) (S.theta-bits w a f)) in
-      let bp = same-trans w (bitsOf p) (pi (bitsOf r)) (pi (rho w (theta w A))) (S.pi-bits w r fr) (S.pi-same w (bitsOf r) (rho w (theta w A)) br) in
-      same-trans w (bitsOf four) (chi (bitsOf p)) fourA (S.chi-bits w p (S.pi-fits w r fr)) (S.chi-same w (bitsOf p) (pi (rho w (theta w A))) bp)
+      same-trans w (bitsOf (piL r)) (pi (bitsOf r)) (pi (rho w (theta w A))) (S.pi-bits w r (S.rho-fits w t ft)) (S.pi-same w (bitsOf r) (rho w (theta w A)) br)
+
+module _ (l ir : ℕ) (a : List ℕ) (f : Fits (2 ^ l) a) where
+  abbrev three : List ℕ
+  three = piL (rhoL (2 ^ l) (thetaL (2 ^ l) a))
+
+  abbrev threeA : Array
+  threeA = pi (rho (2 ^ l) (theta (2 ^ l) (bitsOf a)))
+
+  -- and after chi
+  abbrev four : List ℕ
+  four = chiL (2 ^ l) three
+
+  four-fits : Fits (2 ^ l) four
+  four-fits = S.chi-fits (2 ^ l) three (three-fits (2 ^ l) a f)
+
+  four-bits : Same (2 ^ l) (bitsOf four) (chi threeA)
+  four-bits =
+      let w = 2 ^ l in
+      same-trans w (bitsOf four) (chi (bitsOf three)) (chi threeA) (S.chi-bits w three (three-fits w a f)) (S.chi-same w (bitsOf three) threeA (three-bits w a f))
 
   four-some : 0 < length four
   four-some = omega arith
@@ -61,8 +67,8 @@ module _ (l ir : ℕ) (a : List ℕ) (f : Fits (2 ^ l) a) where
   pub round-bits : Same (2 ^ l) (bitsOf (roundL (2 ^ l) (roundConstant l ir) a)) (rnd l ir (bitsOf a))
   unfolding roundL rnd
   round-bits =
-      same-trans (2 ^ l) (bitsOf (iotaL (roundConstant l ir) four)) (iota l ir (bitsOf four)) (iota l ir fourA)
-      (S.iota-bits l ir four four-fits four-some) (S.iota-same (2 ^ l) (bitsOf four) fourA four-bits l ir)
+      same-trans (2 ^ l) (bitsOf (iotaL (roundConstant l ir) four)) (iota l ir (bitsOf four)) (iota l ir (chi threeA))
+      (S.iota-bits l ir four four-fits four-some) (S.iota-same (2 ^ l) (bitsOf four) (chi threeA) four-bits l ir)
 
 module _ (l : ℕ) (a : List ℕ) (f : Fits (2 ^ l) a) where
   pub rounds-fit : (n : ℕ) → Fits (2 ^ l) (roundsL l n a)

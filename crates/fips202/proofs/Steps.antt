@@ -53,10 +53,10 @@ module _ (w : ℕ) (A B : Array) (h : Same w A B) where
 
 -- ---- lanes made place by place
 
-lanes-at : (f : ℕ → ℕ → ℕ) (x y : ℕ) → x < 5 → y < 5 → lane (lanes f) x y ≡ f x y
+pub lanes-at : (f : ℕ → ℕ → ℕ) (x y : ℕ) → x < 5 → y < 5 → lane (lanes f) x y ≡ f x y
 lanes-at f x y hx hy = getD-upto (λ i. f (i % 5) (i / 5)) 25 (x + 5 * y) (omega arith) ∙ ap₂ f (omega arith) (omega arith)
 
-fits-lanes : (w : ℕ) (f : ℕ → ℕ → ℕ) → ((x y : ℕ) → x < 5 → y < 5 → f x y < 2 ^ w) → Fits w (lanes f)
+pub fits-lanes : (w : ℕ) (f : ℕ → ℕ → ℕ) → ((x y : ℕ) → x < 5 → y < 5 → f x y < 2 ^ w) → Fits w (lanes f)
 fits-lanes w f h x y hx hy = subst⁻¹ (λ (n : ℕ). n < 2 ^ w) (lanes-at f x y hx hy) (h x y hx hy)
 
 -- ---- theta, rho, pi, chi
