@@ -1,2 +1,5 @@
+pub mod Linear
+pub mod Complemented
+pub mod Chi
 pub mod Loops
 pub mod Promise

@@ -1,14 +1,19 @@
--- What the loops of Keccak-f[1600] cite: one turn more of a loop that counts up, and what all of its turns make. Assumes nothing.
+-- What the loops of Keccak-f[1600] cite: one turn more of a loop that counts up, and what all of its turns make; and of the loops over the
+-- rounds, how many rounds on a state is. Assumes nothing.
 use mathlib.Core.Path.{_≡_, refl, ap, _∙_}
 use mathlib.Core.List.{List, [], _∷_, map}
 use Prim.Native.Nat.{ℕ, zero, suc, _+_, _*_, _<_}
+use native.Mathlib.Nat.{add-zero, add-suc}
 use native.Mathlib.Omega.{arith}
 use native.Mathlib.Numerals.{add-one}
-use lib.ListN.{getD, set, replicate}
+use lib.ListN.{length, getD, set, replicate}
 use lib.Seq.{sets}
 use Rattle.fips202.specs.Keccak.{countFrom}
-use Rattle.fips202.specs.Lanes.{roundConstant, roundL, roundsL, leNumber, laneOfBytes, lanesOfBytes, bytesOfLane, bytesOfLanes}
+use Rattle.fips202.specs.Lanes.{Fits, roundConstant, roundL, roundsL, leNumber, laneOfBytes, lanesOfBytes, bytesOfLane, bytesOfLanes}
 use Rattle.fips202.proofs.Count.{getD-upto}
+use Rattle.fips202.proofs.Rounds.{rounds-fit}
+use Rattle.keccak.specs.Complemented.{complemented}
+use Rattle.keccak.proofs.Complemented.{complemented-fits, complemented-twice}
 
 -- f 0, f 1, .., f (n - 1), one after the other
 unfoldable pub turns : (ℕ → List ℕ → List ℕ) → ℕ → List ℕ → List ℕ
@@ -35,13 +40,33 @@ pub write-all : (a : List ℕ) → turns (writeAt a) 25 (replicate 200 0) ≡ by
 unfolding turns
 write-all a = refl
 
--- the loop over the rounds
-abbrev pub roundAt : ℕ → List ℕ → List ℕ
-roundAt i a = roundL 64 (roundConstant 6 i) a
+-- the loops over the rounds: after n of them from s₀, the marked lanes of both complemented
+abbrev pub After : List ℕ → ℕ → List ℕ → Type 0
+After s₀ n s = complemented 64 s ≡ roundsL 6 n (complemented 64 s₀)
 
-pub round-all : (a : List ℕ) → turns roundAt 24 a ≡ roundsL 6 24 a
-unfolding turns roundsL
-round-all a = refl
+pub after-none : (s₀ : List ℕ) → After s₀ 0 s₀
+unfolding roundsL
+after-none s₀ = refl
+
+-- k rounds on from one that is n rounds on, whatever it started from
+abbrev pub Further : ℕ → ℕ → List ℕ → List ℕ → Type 0
+Further n k s t = (s₀ : List ℕ) → Fits 64 s₀ → After s₀ n s → After s₀ (n + k) t
+
+pub further-none : (n : ℕ) (s : List ℕ) → Further n 0 s s
+further-none n s s₀ f e = rw (add-zero n) e
+
+pub further-more : (n k : ℕ) (s t : List ℕ) {u : List ℕ} → Further n k s t
+    → u ≡ complemented 64 (roundL 64 (roundConstant 6 (n + k)) (complemented 64 t)) → Further n (k + 1) s u
+unfolding roundsL roundL
+further-more n k s t go h s₀ f e =
+    let a = complemented 64 s₀ in
+    rw (add-one, add-suc n k)
+    (ap (complemented 64) (h ∙ ap (λ (b : List ℕ). complemented 64 (roundL 64 (roundConstant 6 (n + k)) b)) (go s₀ f e))
+    ∙ complemented-twice 64 (roundsL 6 (suc (n + k)) a) (rounds-fit 6 a (complemented-fits 64 s₀ f) (suc (n + k))) refl)
+
+pub after-all : (a : List ℕ) → Fits 64 a → length a ≡ 25 → {s₀ : List ℕ} (s : List ℕ) {r : List ℕ} → s₀ ≡ complemented 64 a → After s₀ 24 s
+    → r ≡ complemented 64 s → r ≡ roundsL 6 24 a
+after-all a f long s e h k = k ∙ h ∙ ap (roundsL 6 24) (ap (complemented 64) e ∙ complemented-twice 64 a f long)
 
 -- the round constants by rc(t), to which the code's table is held as a whole
 abbrev pub roundConstants : List ℕ

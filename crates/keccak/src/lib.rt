@@ -1,7 +1,7 @@
 // Keccak-f[1600], the permutation of FIPS 202, on the 200 bytes of a state.
 mod lanes;
+mod round;
 mod rounds;
-mod steps;
 
 ghost use mathlib.Core.Path.{_≡_};
 ghost use Rattle.fips202.specs.Bytes.{keccakF1600};

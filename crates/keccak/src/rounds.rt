@@ -1,15 +1,8 @@
-// The rounds of KECCAK-f[1600] on lanes: FIPS 202, 3.3 and 3.4.
-use crate::steps::chi_iota;
-use crate::steps::rho_pi;
-use crate::steps::theta;
+// The rounds of KECCAK-f[1600] on lanes: FIPS 202, 3.4.
+use crate::round::complement_marked;
+use crate::round::round;
 ghost use mathlib.Core.Path.{_≡_};
-ghost use Rattle.fips202.specs.Lanes.{roundL, roundsL};
-
-pub fn round(a: [u64; 25], rc: u64) -> [u64; 25]
-    ensures { λ r. ⌜ r ≡ roundL 64 rc a ⌝ }
-{
-    chi_iota(rho_pi(theta(a)), rc)
-}
+ghost use Rattle.fips202.specs.Lanes.{roundsL};
 
 // The lanes of the round constants, held to rc(t) by the proof of `rounds`.
 const RC: [u64; 24] = [
@@ -44,12 +37,17 @@ pub fn rounds(a: [u64; 25]) -> [u64; 25]
 {
     // the table is copied once: an index into a constant would copy it at each turn
     let constants = RC;
-    let mut s = a;
+    let mut s = complement_marked(a);
     let mut i = 0;
-    while i < 24 {
-        let t = round(s, constants[i]);
-        s = t;
+    while i < 12 {
+        // two rounds a turn, by a loop that the compiler unrolls: with two calls it would not inline the round
+        let mut j = 0;
+        while j < 2 {
+            let t = round(s, constants[2 * i + j]);
+            s = t;
+            j += 1;
+        }
         i += 1;
     }
-    s
+    complement_marked(s)
 }
