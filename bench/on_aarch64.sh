@@ -53,3 +53,6 @@ run() { emulate "$loader" --library-path "$libc" "$@"; }
 count() { emulate -one-insn-per-tb -d exec,nochain -D >(wc -l) "$loader" --library-path "$libc" "$@" > /dev/null; }
 
 counted_by() { emulate --version | head -1; }
+
+# An emulator's time is not the program's.
+user_time() { :; }

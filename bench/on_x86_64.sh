@@ -32,3 +32,11 @@ run() { "$@"; }
 count() { valgrind --tool=callgrind --callgrind-out-file=/dev/null "$@" 2>&1 > /dev/null | sed -n 's/.*Collected : //p'; }
 
 counted_by() { echo "$(valgrind --version) --tool=callgrind"; }
+
+# user_time COMMAND..: the least of nine runs, in seconds
+user_time() {
+    local TIMEFORMAT=%U
+    for _ in 1 2 3 4 5 6 7 8 9; do
+        { time "$@" > /dev/null; } 2>&1
+    done | sort -n | head -1
+}
