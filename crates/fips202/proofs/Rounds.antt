@@ -24,13 +24,19 @@ pub rounds-next : (l n : ℕ) (A : Array) → rounds l 0 (suc n) A ≡ rnd l n (
 unfolding rounds
 rounds-next l n A = ap (λ (ir : ℕ). rnd l ir (rounds l 0 n A)) (add-zero n)
 
--- the lanes after theta, rho and pi
-module _ (w : ℕ) (a : List ℕ) (f : Fits w a) where
-  pub three-fits : Fits w (piL (rhoL w (thetaL w a)))
-  three-fits = let t = thetaL w a in S.pi-fits w (rhoL w t) (S.rho-fits w t (S.theta-fits w a f))
+-- the lanes after theta, rho and pi, and a state array after them
+abbrev pub beforeChi : ℕ → List ℕ → List ℕ
+beforeChi w a = piL (rhoL w (thetaL w a))
 
-  pub three-bits : Same w (bitsOf (piL (rhoL w (thetaL w a)))) (pi (rho w (theta w (bitsOf a))))
-  three-bits =
+abbrev pub arrayBeforeChi : ℕ → Array → Array
+arrayBeforeChi w A = pi (rho w (theta w A))
+
+module _ (w : ℕ) (a : List ℕ) (f : Fits w a) where
+  pub before-chi-fits : Fits w (beforeChi w a)
+  before-chi-fits = let t = thetaL w a in S.pi-fits w (rhoL w t) (S.rho-fits w t (S.theta-fits w a f))
+
+  pub before-chi-bits : Same w (bitsOf (beforeChi w a)) (arrayBeforeChi w (bitsOf a))
+  before-chi-bits =
       let A = bitsOf a in
       let t = thetaL w a in
       let r = rhoL w t in
@@ -39,36 +45,36 @@ module _ (w : ℕ) (a : List ℕ) (f : Fits w a) where
       same-trans w (bitsOf (piL r)) (pi (bitsOf r)) (pi (rho w (theta w A))) (S.pi-bits w r (S.rho-fits w t ft)) (S.pi-same w (bitsOf r) (rho w (theta w A)) br)
 
 module _ (l ir : ℕ) (a : List ℕ) (f : Fits (2 ^ l) a) where
-  abbrev three : List ℕ
-  three = piL (rhoL (2 ^ l) (thetaL (2 ^ l) a))
+  abbrev before : List ℕ
+  before = beforeChi (2 ^ l) a
 
-  abbrev threeA : Array
-  threeA = pi (rho (2 ^ l) (theta (2 ^ l) (bitsOf a)))
+  abbrev beforeA : Array
+  beforeA = arrayBeforeChi (2 ^ l) (bitsOf a)
 
-  -- and after chi
-  abbrev four : List ℕ
-  four = chiL (2 ^ l) three
+  abbrev afterChi : List ℕ
+  afterChi = chiL (2 ^ l) before
 
-  four-fits : Fits (2 ^ l) four
-  four-fits = S.chi-fits (2 ^ l) three (three-fits (2 ^ l) a f)
+  after-chi-fits : Fits (2 ^ l) afterChi
+  after-chi-fits = S.chi-fits (2 ^ l) before (before-chi-fits (2 ^ l) a f)
 
-  four-bits : Same (2 ^ l) (bitsOf four) (chi threeA)
-  four-bits =
+  after-chi-bits : Same (2 ^ l) (bitsOf afterChi) (chi beforeA)
+  after-chi-bits =
       let w = 2 ^ l in
-      same-trans w (bitsOf four) (chi (bitsOf three)) (chi threeA) (S.chi-bits w three (three-fits w a f)) (S.chi-same w (bitsOf three) threeA (three-bits w a f))
+      same-trans w (bitsOf afterChi) (chi (bitsOf before)) (chi beforeA) (S.chi-bits w before (before-chi-fits w a f))
+      (S.chi-same w (bitsOf before) beforeA (before-chi-bits w a f))
 
-  four-some : 0 < length four
-  four-some = omega arith
+  after-chi-some : 0 < length afterChi
+  after-chi-some = omega arith
 
   pub round-fits : Fits (2 ^ l) (roundL (2 ^ l) (roundConstant l ir) a)
   unfolding roundL
-  round-fits = S.iota-fits l ir four four-fits four-some
+  round-fits = S.iota-fits l ir afterChi after-chi-fits after-chi-some
 
   pub round-bits : Same (2 ^ l) (bitsOf (roundL (2 ^ l) (roundConstant l ir) a)) (rnd l ir (bitsOf a))
   unfolding roundL rnd
   round-bits =
-      same-trans (2 ^ l) (bitsOf (iotaL (roundConstant l ir) four)) (iota l ir (bitsOf four)) (iota l ir (chi threeA))
-      (S.iota-bits l ir four four-fits four-some) (S.iota-same (2 ^ l) (bitsOf four) (chi threeA) four-bits l ir)
+      same-trans (2 ^ l) (bitsOf (iotaL (roundConstant l ir) afterChi)) (iota l ir (bitsOf afterChi)) (iota l ir (chi beforeA))
+      (S.iota-bits l ir afterChi after-chi-fits after-chi-some) (S.iota-same (2 ^ l) (bitsOf afterChi) (chi beforeA) after-chi-bits l ir)
 
 module _ (l : ℕ) (a : List ℕ) (f : Fits (2 ^ l) a) where
   pub rounds-fit : (n : ℕ) → Fits (2 ^ l) (roundsL l n a)

@@ -1,19 +1,19 @@
 -- Each step mapping on lanes has exactly the bits of FIPS 202's step mapping on bits, over the lane width w; and FIPS 202's step mappings
 -- read a state array at x, y < 5 and z < w alone. Assumes nothing.
-use mathlib.Core.Path.{_≡_, ap, ap₂, _∙_, subst⁻¹}
+use mathlib.Core.Path.{_≡_, sym, ap, ap₂, _∙_, subst⁻¹}
 use mathlib.Core.Logic.{_≢_}
 use mathlib.Core.List.{List}
 use Prim.Native.Nat.{ℕ, zero, suc, _+_, _*_, _-_, _/_, _%_, _^_, _<_}
 use native.Mathlib.Nat.{mod-lt}
 use native.Mathlib.Omega.{arith}
 use lib.ListN.{length, getD}
-use lib.Seq.{getD-set-same, getD-set-other}
+use lib.Seq.{ext-getD, getD-set-same, getD-set-other}
 use lib.Pow.{ones-sub-lt}
 use lib.Bits.{bitXor, bitAnd, xor-lt, and-lt}
 use Rattle.fips202.specs.Keccak.{Array, back, thetaC, theta, offset, rho, pi, chi, RC, iota}
 use Rattle.fips202.specs.Bytes.{bit}
 use Rattle.fips202.specs.Lanes.{lane, lanes, Fits, bitsOf, rotl, complement, column, thetaAt, thetaL, offsets, rhoAt, rhoL, piAt, piL, chiAt, chiL, iotaL, roundConstant}
-use Rattle.fips202.proofs.Count.{getD-upto}
+use Rattle.fips202.proofs.Count.{getD-upto, same-upto}
 use Rattle.fips202.proofs.Bit.{bit-xor, bit-and, bit-not, bit-rotl, rotl-lt}
 use Rattle.fips202.proofs.Same.{Same}
 use Rattle.fips202.proofs.Rho.{table-2}
@@ -55,6 +55,20 @@ module _ (w : ℕ) (A B : Array) (h : Same w A B) where
 
 pub lanes-at : (f : ℕ → ℕ → ℕ) (x y : ℕ) → x < 5 → y < 5 → lane (lanes f) x y ≡ f x y
 lanes-at f x y hx hy = getD-upto (λ i. f (i % 5) (i / 5)) 25 (x + 5 * y) (omega arith) ∙ ap₂ f (omega arith) (omega arith)
+
+-- the same lanes at each place, and 25 lanes as the lanes at their places
+pub lanes-same : (f g : ℕ → ℕ → ℕ) → ((x y : ℕ) → x < 5 → y < 5 → f x y ≡ g x y) → lanes f ≡ lanes g
+lanes-same f g h = same-upto (λ i. f (i % 5) (i / 5)) (λ i. g (i % 5) (i / 5)) 25 (λ i b. h (i % 5) (i / 5) (omega arith) (omega arith))
+
+pub lanes-whole : (a : List ℕ) → length a ≡ 25 → lanes (lane a) ≡ a
+lanes-whole a long =
+    ext-getD 0 (lanes (lane a)) a (sym long)
+    (λ i h.
+    let place : i % 5 + 5 * (i / 5) ≡ i = omega arith in
+    getD-upto (λ i. lane a (i % 5) (i / 5)) 25 i h ∙ ap (λ (n : ℕ). getD a n 0) place)
+
+pub below-fits : (w : ℕ) (a : List ℕ) → ((j : ℕ) → getD a j 0 < 2 ^ w) → Fits w a
+below-fits w a h x y hx hy = h (x + 5 * y)
 
 pub fits-lanes : (w : ℕ) (f : ℕ → ℕ → ℕ) → ((x y : ℕ) → x < 5 → y < 5 → f x y < 2 ^ w) → Fits w (lanes f)
 fits-lanes w f h x y hx hy = subst⁻¹ (λ (n : ℕ). n < 2 ^ w) (lanes-at f x y hx hy) (h x y hx hy)

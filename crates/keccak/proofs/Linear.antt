@@ -4,12 +4,13 @@ use Prim.Native.Nat.{ℕ, zero, suc, _+_, _*_, _/_, _%_}
 use native.Mathlib.Omega.{arith}
 use lib.Arith.{bin-ind}
 use lib.Bits.{bitXor, xor-zero-l, xor-comm, xor-shr, xor-add-and}
-use Rattle.fips202.specs.Keccak.{Array, back, thetaC, theta, offset, rho, pi}
+use Rattle.fips202.specs.Keccak.{Array, back, thetaC, theta, offset}
+use Rattle.fips202.proofs.Rounds.{arrayBeforeChi}
 
 -- ---- xor of numbers, in any order
 
-half : (a b : ℕ) → bitXor a b / 2 ≡ bitXor (a / 2) (b / 2)
-half a b = xor-shr a b 1
+xor-half : (a b : ℕ) → bitXor a b / 2 ≡ bitXor (a / 2) (b / 2)
+xor-half a b = xor-shr a b 1
 
 xor-assoc : (a b c : ℕ) → bitXor (bitXor a b) c ≡ bitXor a (bitXor b c)
 xor-assoc =
@@ -20,8 +21,8 @@ xor-assoc =
         → bitXor (bitXor a b) c ≡ bitXor a (bitXor b c)
     step a halves b c =
         let same : bitXor (bitXor a b) c / 2 ≡ bitXor a (bitXor b c) / 2 =
-        half (bitXor a b) c ∙ ap (λ (n : ℕ). bitXor n (c / 2)) (half a b) ∙ halves (b / 2) (c / 2)
-        ∙ sym (half a (bitXor b c) ∙ ap (bitXor (a / 2)) (half b c)) in
+        xor-half (bitXor a b) c ∙ ap (λ (n : ℕ). bitXor n (c / 2)) (xor-half a b) ∙ halves (b / 2) (c / 2)
+        ∙ sym (xor-half a (bitXor b c) ∙ ap (bitXor (a / 2)) (xor-half b c)) in
         omega (arith, same, xor-add-and (bitXor a b) c, xor-add-and a b, xor-add-and a (bitXor b c), xor-add-and b c)
 
 xor-swap : (a b c d : ℕ) → bitXor (bitXor a b) (bitXor c d) ≡ bitXor (bitXor a c) (bitXor b d)
@@ -60,5 +61,5 @@ module _ (w : ℕ) (A B : Array) where
       ∙ xor-swap (A x y z) (B x y z) (bitXor (thetaC A before z) (thetaC A after turned)) (bitXor (thetaC B before z) (thetaC B after turned))
 
   -- rho and pi only move bits
-  pub three-xor : (x y z : ℕ) → pi (rho w (theta w (A ⊕ B))) x y z ≡ (pi (rho w (theta w A)) ⊕ pi (rho w (theta w B))) x y z
-  three-xor x y z = theta-xor ((x + 3 * y) % 5) x (back w z (offset ((x + 3 * y) % 5) x))
+  pub before-chi-xor : (x y z : ℕ) → arrayBeforeChi w (A ⊕ B) x y z ≡ bitXor (arrayBeforeChi w A x y z) (arrayBeforeChi w B x y z)
+  before-chi-xor x y z = theta-xor ((x + 3 * y) % 5) x (back w z (offset ((x + 3 * y) % 5) x))

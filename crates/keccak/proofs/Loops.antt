@@ -1,5 +1,4 @@
--- What the loops of Keccak-f[1600] cite: one turn more of a loop that counts up, and what all of its turns make; and of the loops over the
--- rounds, how many rounds on a state is. Assumes nothing.
+-- What the loops of Keccak-f[1600] cite: one turn more of a loop that counts up, and what all of its turns make. Assumes nothing.
 use mathlib.Core.Path.{_≡_, refl, ap, _∙_}
 use mathlib.Core.List.{List, [], _∷_, map}
 use Prim.Native.Nat.{ℕ, zero, suc, _+_, _*_, _<_}
@@ -24,6 +23,12 @@ pub turns-more : (f : ℕ → List ℕ → List ℕ) (n : ℕ) (a : List ℕ) {x
 unfolding turns
 turns-more f n a e h = rw add-one (h ∙ ap (f n) e)
 
+-- k turns more
+pub turns-join : (f : ℕ → List ℕ → List ℕ) (n k : ℕ) (a : List ℕ) → turns (λ j. f (n + j)) k (turns f n a) ≡ turns f (n + k) a
+unfolding turns
+turns-join f n zero a = rw (add-zero n)
+turns-join f n (suc k) a = rw (add-suc n k) (ap (f (n + k)) (turns-join f n k a))
+
 -- the loop that reads lanes
 abbrev pub readAt : List ℕ → ℕ → List ℕ → List ℕ
 readAt s i a = set a i (laneOfBytes 8 s i)
@@ -40,33 +45,21 @@ pub write-all : (a : List ℕ) → turns (writeAt a) 25 (replicate 200 0) ≡ by
 unfolding turns
 write-all a = refl
 
--- the loops over the rounds: after n of them from s₀, the marked lanes of both complemented
-abbrev pub After : List ℕ → ℕ → List ℕ → Type 0
-After s₀ n s = complemented 64 s ≡ roundsL 6 n (complemented 64 s₀)
+-- the loops over the rounds: round i, between lanes of which the marked ones are complemented
+abbrev pub roundAt : ℕ → List ℕ → List ℕ
+roundAt i s = complemented 64 (roundL 64 (roundConstant 6 i) (complemented 64 s))
 
-pub after-none : (s₀ : List ℕ) → After s₀ 0 s₀
-unfolding roundsL
-after-none s₀ = refl
+rounds-complemented : (a : List ℕ) → Fits 64 a → (n : ℕ) → complemented 64 (turns roundAt n a) ≡ roundsL 6 n (complemented 64 a)
+unfolding turns roundsL roundL
+rounds-complemented a f zero = refl
+rounds-complemented a f (suc n) =
+    let b = complemented 64 a in
+    ap (λ (s : List ℕ). complemented 64 (complemented 64 (roundL 64 (roundConstant 6 n) s))) (rounds-complemented a f n)
+    ∙ complemented-twice 64 (roundsL 6 (suc n) b) (rounds-fit 6 b (complemented-fits 64 a f) (suc n)) refl
 
--- k rounds on from one that is n rounds on, whatever it started from
-abbrev pub Further : ℕ → ℕ → List ℕ → List ℕ → Type 0
-Further n k s t = (s₀ : List ℕ) → Fits 64 s₀ → After s₀ n s → After s₀ (n + k) t
-
-pub further-none : (n : ℕ) (s : List ℕ) → Further n 0 s s
-further-none n s s₀ f e = rw (add-zero n) e
-
-pub further-more : (n k : ℕ) (s t : List ℕ) {u : List ℕ} → Further n k s t
-    → u ≡ complemented 64 (roundL 64 (roundConstant 6 (n + k)) (complemented 64 t)) → Further n (k + 1) s u
-unfolding roundsL roundL
-further-more n k s t go h s₀ f e =
-    let a = complemented 64 s₀ in
-    rw (add-one, add-suc n k)
-    (ap (complemented 64) (h ∙ ap (λ (b : List ℕ). complemented 64 (roundL 64 (roundConstant 6 (n + k)) b)) (go s₀ f e))
-    ∙ complemented-twice 64 (roundsL 6 (suc (n + k)) a) (rounds-fit 6 a (complemented-fits 64 s₀ f) (suc (n + k))) refl)
-
-pub after-all : (a : List ℕ) → Fits 64 a → length a ≡ 25 → {s₀ : List ℕ} (s : List ℕ) {r : List ℕ} → s₀ ≡ complemented 64 a → After s₀ 24 s
-    → r ≡ complemented 64 s → r ≡ roundsL 6 24 a
-after-all a f long s e h k = k ∙ h ∙ ap (roundsL 6 24) (ap (complemented 64) e ∙ complemented-twice 64 a f long)
+pub round-all : (a : List ℕ) → Fits 64 a → length a ≡ 25 → complemented 64 (turns roundAt 24 (complemented 64 a)) ≡ roundsL 6 24 a
+round-all a f long =
+    rounds-complemented (complemented 64 a) (complemented-fits 64 a f) 24 ∙ ap (roundsL 6 24) (complemented-twice 64 a f long)
 
 -- the round constants by rc(t), to which the code's table is held as a whole
 abbrev pub roundConstants : List ℕ

@@ -14,11 +14,14 @@ marks =
     ∷ 0 ∷ 0 ∷ 1 ∷ 0 ∷ 0
     ∷ 1 ∷ 0 ∷ 0 ∷ 0 ∷ 0 ∷ []
 
--- a lane of w bits by its mark
+-- a lane of w bits, complemented where its mark is 1
 abbrev pub byMark : ℕ → ℕ → ℕ → ℕ
 byMark w zero x = x
 byMark w (suc m) x = complement w x
 
 -- the lanes, the marked ones complemented
+abbrev pub complementedAt : ℕ → List ℕ → ℕ → ℕ → ℕ
+complementedAt w a x y = byMark w (getD marks (x + 5 * y) 0) (lane a x y)
+
 unfoldable pub complemented : ℕ → List ℕ → List ℕ
-complemented w a = lanes (λ x y. byMark w (getD marks (x + 5 * y) 0) (lane a x y))
+complemented w a = lanes (complementedAt w a)

@@ -4,7 +4,7 @@ ghost use mathlib.Core.Path.{_≡_};
 ghost use Rattle.fips202.specs.Lanes.{roundL};
 ghost use Rattle.keccak.specs.Complemented.{complemented};
 
-// The six lanes that are marked, complemented: so they stand between the rounds.
+// The six marked lanes complemented, as they stand between the rounds. Done twice it changes nothing.
 pub fn complement_marked(a: [u64; 25]) -> [u64; 25]
     ensures { λ r. ⌜ r ≡ complemented 64 a ⌝ }
 {
@@ -18,8 +18,8 @@ pub fn complement_marked(a: [u64; 25]) -> [u64; 25]
     s
 }
 
-// FIPS 202, 3.3, between lanes of which the marked ones are complemented; `rc` is the lane of the round constant. theta, rho and pi take
-// complements as they take lanes. chi's `x ^ (!y & z)` becomes an and or an or, with five complements left of twenty-five.
+// FIPS 202, 3.3, between lanes of which the marked ones are complemented; `rc` is the lane of the round constant. theta, rho and pi are
+// written as ever: a complement goes through them. chi's `u ^ (!v & w)` becomes `u ^ (v & w)` or `u ^ (v | w)`, with five complements in all.
 pub fn round(a: [u64; 25], rc: u64) -> [u64; 25]
     ensures { λ r. ⌜ r ≡ complemented 64 (roundL 64 rc (complemented 64 a)) ⌝ }
 {
@@ -59,7 +59,8 @@ pub fn round(a: [u64; 25], rc: u64) -> [u64; 25]
     let d2 = c1 ^ (c3 << 1 | c3 >> 63);
     let d3 = c2 ^ (c4 << 1 | c4 >> 63);
     let d4 = c3 ^ (c0 << 1 | c0 >> 63);
-    // rho, pi, chi and iota, plane by plane: t is a lane after theta, b after rho and pi, e at the end
+    // the rest, plane by plane: t is a lane after theta, b after rho and pi, e after chi and iota
+    // y = 0
     let b0 = a0 ^ d0;
     let t6 = a6 ^ d1;
     let b1 = t6 << 44 | t6 >> 20;

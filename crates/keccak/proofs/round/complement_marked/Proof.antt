@@ -5,8 +5,8 @@ use Prim.Native.Nat.{ℕ}
 use borrow.Author.Needs.{needs}
 use lib.ListN.{getD, set}
 use Rattle.fips202.specs.Lanes.{complement}
+use Rattle.fips202.proofs.Steps.{lanes-whole}
 use Rattle.keccak.specs.Complemented.{complemented}
-use Rattle.keccak.proofs.Complemented.{lanes-whole}
 use Rattle.keccak.proofs.round.complement_marked.Statement.{statement}
 use Rattle.keccak.proofs.round.complement_marked.Tie as tie
 

@@ -5,7 +5,7 @@ use borrow.Author.Needs.{needs}
 use lib.ListN.{getD}
 use mir.Val.{Fits}
 use mir.Syntax.{w64}
-use Rattle.keccak.proofs.Complemented.{fits-of}
+use Rattle.fips202.proofs.Steps.{below-fits}
 use Rattle.keccak.proofs.Chi.{markedRound, round-marked}
 use Rattle.keccak.proofs.round.round.Statement.{statement}
 use Rattle.keccak.proofs.round.round.Tie as tie
@@ -14,7 +14,7 @@ returns : tie.Need-returns
 returns c =
     let a = c .args .t1 in
     let computed : markedRound 64 (c .args .rc) a ≡ markedRound 64 (c .args .rc) a = refl in
-    computed ∙ round-marked (c .args .rc) 64 a (fits-of 64 a (λ j. let f : Fits w64 (getD a j 0) = search needs in omega arith))
+    computed ∙ round-marked 64 (c .args .rc) a (below-fits 64 a (λ j. let f : Fits w64 (getD a j 0) = search needs in omega arith))
 
 pub round-spec : {M : Type 1} → statement M
 round-spec =
