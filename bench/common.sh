@@ -24,7 +24,7 @@ whole() {
 }
 
 need rt "install the Rattle kit"
-# Each file has: check_tools, keccak_folder, package_version, compile, build_program, run, count, counted_by, user_time.
+# Each file has: check_tools, keccak_folder, package_version, compile, build_program, run, count, counted_by, user_time, timed_by.
 case "$(uname -m)" in
     x86_64) . bench/on_x86_64.sh ;;
     aarch64) . bench/on_aarch64.sh ;;

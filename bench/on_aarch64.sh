@@ -54,5 +54,6 @@ count() { emulate -one-insn-per-tb -d exec,nochain -D >(wc -l) "$loader" --libra
 
 counted_by() { emulate --version | head -1; }
 
-# An emulator's time is not the program's.
 user_time() { :; }
+
+timed_by() { echo "none, since an emulator's time is not the program's"; }

@@ -33,10 +33,12 @@ count() { valgrind --tool=callgrind --callgrind-out-file=/dev/null "$@" 2>&1 > /
 
 counted_by() { echo "$(valgrind --version) --tool=callgrind"; }
 
-# user_time COMMAND..: the least of nine runs, in seconds
+# user_time COMMAND..: in seconds
 user_time() {
     local TIMEFORMAT=%U
     for _ in 1 2 3 4 5 6 7 8 9; do
-        { time "$@" > /dev/null; } 2>&1
+        { time "$@" > /dev/null 2>&1; } 2>&1 || exit 1
     done | sort -n | head -1
 }
+
+timed_by() { echo "in seconds for $1, the least of nine runs"; }
