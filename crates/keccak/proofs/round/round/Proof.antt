@@ -10,6 +10,7 @@ use Rattle.keccak.proofs.Chi.{markedRound, round-marked}
 use Rattle.keccak.proofs.round.round.Statement.{statement}
 use Rattle.keccak.proofs.round.round.Tie as tie
 
+-- `computed` compares code and `markedRound`, before the law is cited: the kernel takes longer over both at once
 returns : tie.Need-returns
 returns c =
     let a = c .args .t1 in
