@@ -9,11 +9,12 @@ use Rattle.strobe.specs.Answer.{number, refuses}
 use Rattle.strobe.specs.Flags.{has, operation}
 use Rattle.strobe.specs.Pieces.{callInPieces}
 use Rattle.strobe.specs.Session.{rateOf, spongeOf, seen, Given, freshAt, blank, created, versionText, Is, Comes, Calls}
-use Rattle.strobe.specs.Strobe.{Effect, wellFormed}
+use Rattle.strobe.specs.Strobe.{Effect, knownLast, wellFormed}
 use Rattle.strobe.specs.declared.answer.Answer.{Answer}
 use Rattle.strobe.specs.declared.answer.Answer.the-variants.{Done, KeyFlag, NoOperation, NotTheLast, CutMac, TooLong, NoLevel, NotASession, MacUnequal, BadSaved, ShortBuffer}
 use Rattle.strobe.specs.declared.flags.Flags.{Flags}
 use Rattle.strobe.specs.declared.flags.Operation.{Operation}
+use Rattle.strobe.specs.declared.last.Last.{Last}
 use Rattle.strobe.specs.declared.level.Level.{Level}
 use Rattle.strobe.specs.declared.session.Outcome.{Outcome}
 use Rattle.strobe.specs.declared.session.Session.{Session}
@@ -80,6 +81,9 @@ has-one-answer f one = one-answer
 
 pub operation-one-answer : (f : Flags) {x y : Operation} → x ≡ operation f → y ≡ operation f → x ≡ y
 operation-one-answer f = one-answer
+
+pub last-known-one-answer : (l : Last) {x y : Bool} → x ≡ knownLast l → y ≡ knownLast l → x ≡ y
+last-known-one-answer l = one-answer
 
 pub number-one-answer : (a : Answer) {x y : ℕ} → x ≡ number a → y ≡ number a → x ≡ y
 number-one-answer a = one-answer

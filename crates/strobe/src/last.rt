@@ -10,7 +10,7 @@ pub enum Last {
 
 impl Last {
     // None, or one of the twenty.
-    pub(crate) fn known(self) -> bool
+    pub fn known(self) -> bool
         ensures { λ r. ⌜ r ≡ knownLast self ⌝ }
     {
         match self {
