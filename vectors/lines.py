@@ -2,7 +2,7 @@
 import sys
 
 sys.dont_write_bytecode = True  # a run leaves no file beside this one
-from saved import load
+from saved import last_byte, load
 from strobe import DONE, I, M, RATCHET, fresh
 
 NAME = b"Pekenutor vectors"
@@ -50,10 +50,12 @@ class Lines:
         self.lines.append(bytes(numbers).hex())
 
     def loads(self, forms):
-        """Two rows: the answers of loads, and the positions they give."""
+        """Three rows: the answers of loads, and the positions and the last
+        operations that they give."""
         loaded = [load(data) for data in forms]
         self.row(answer for answer, _ in loaded)
         self.row(session.pos for _, session in loaded)
+        self.row(last_byte(session) for _, session in loaded)
 
     def fresh(self, level):
         """A creation."""

@@ -2,8 +2,9 @@
 """Makes the stored output of the crate replay_ends.
 
 It does with strobe.py what the program does with the library, but takes each
-operation whole. It writes the crate's stdout, or, with --check, compares it
-with what would be written. It fails if the ends disagree or the plan has gaps.
+operation whole, with no load in its middle. It writes the crate's stdout, or,
+with --check, compares it with what would be written. It fails if the ends
+disagree or the plan has gaps.
 """
 import sys
 from pathlib import Path
@@ -11,7 +12,7 @@ from pathlib import Path
 sys.dont_write_bytecode = True  # a run leaves no file beside this one
 import keccak
 from replay_plan import FIRST, LONGEST_MAC, SECOND, drawn, test_plan
-from saved import SIZE, load, save
+from saved import form, load
 from strobe import (
     AD, CUT_MAC, DONE, I, K, M, NOT_THE_LAST, PRF, RATCHET, RATES, RECV_MAC,
     SEND_MAC, T, fresh, test_strobe)
@@ -25,24 +26,24 @@ class End:
     def __init__(self, level):
         self.session = fresh(b"replay.example", level)
         self.answer, self.given = DONE, b""
-        self.loaded = self.refused = "-"
+        self.went_on = self.refused = "-"
 
-    def overnight(self):
+    def overnight(self, edition):
         """A save and a load."""
         last = self.session.cur_flags
-        saved, form = save(self.session, bytes(SIZE))
-        loaded, self.session = load(form)
-        if (saved, loaded) != (DONE, DONE):
-            sys.exit("an end was not saved and loaded")
-        self.go_on(last)
+        loaded, self.session = load(form(self.session, edition))
+        if loaded != DONE:
+            sys.exit("an end was not loaded")
+        if edition == 1:
+            self.go_on(last)
 
     def go_on(self, last):
         """More of the operation that was last before the save. A load of
         edition 1 sets none, so it is refused, and a received MAC always."""
         expected = CUT_MAC if last & ~M == RECV_MAC else NOT_THE_LAST
-        self.loaded = self.session.refusal(last, True, LONGEST_MAC + 1)
-        if self.loaded != expected:
-            sys.exit(f"a loaded end that goes on is answered {self.loaded}")
+        self.went_on = self.session.refusal(last, True, LONGEST_MAC + 1)
+        if self.went_on != expected:
+            sys.exit(f"a loaded end that goes on is answered {self.went_on}")
 
     def attempt(self, which, flags):
         """What a call that is to be refused is answered."""
@@ -58,32 +59,28 @@ class End:
         """One operation, whole."""
         self.answer, self.given = self.session.call(flags, more, lent)
 
-    def shown(self):
+    def shown(self, part):
         """Its part of a line."""
-        return (f"{self.loaded} {self.refused} {self.answer} "
-                f"{self.session.pos} {self.session.pos_begin} "
+        return (f"{part.edition} {self.went_on} {self.refused} {part.middle} "
+                f"{self.answer} {self.session.pos} {self.session.pos_begin} "
                 f"{self.given.hex()}")
 
 
-def mirror(flags):
-    """The same operation at the other end."""
-    return flags ^ I if flags & T else flags
-
-
-def before(end, number, step, flags):
+def before(end, number, step):
     """The save, the load and the refused call before an operation."""
-    end.loaded = end.refused = "-"
-    if step.saved & number:
-        end.overnight()
+    part = step.parts[number]
+    end.went_on = end.refused = "-"
+    if part.edition != "-":
+        end.overnight(part.edition)
     if step.who == number:
-        end.attempt(step.which, flags)
+        end.attempt(step.which, part.flags)
 
 
 def play(step, first, second):
     """One operation at both ends."""
-    here, there = step.flags, mirror(step.flags)
-    before(first, FIRST, step, here)
-    before(second, SECOND, step, there)
+    before(first, FIRST, step)
+    before(second, SECOND, step)
+    here, there = (part.flags for part in step.parts.values())
     if not here & T:
         blind = here & ~M in (RATCHET, PRF)
         first.operate(here, step.opening, step.data)
@@ -120,8 +117,9 @@ def level_lines(level, steps):
         play(step, first, second)
         if not agree(step, first, second):
             sys.exit(f"{level}: the ends disagree after operation {number}")
+        here, there = step.parts.values()
         yield (f"{number} {step.flags:02x} {len(step.data)}; "
-               f"{first.shown()}; {second.shown()};")
+               f"{first.shown(here)}; {second.shown(there)};")
     states = [end.session.state.hex() for end in (first, second)]
     yield f"states; {states[0]}; {states[1]};"
 

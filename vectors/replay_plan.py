@@ -10,27 +10,51 @@ sys.dont_write_bytecode = True  # a run leaves no file beside this one
 from strobe import (
     AD, I, M, OPERATIONS, PRF, RATES, RECV_MAC, SEND_MAC, T, fresh)
 
-NAME = b"a plan for two ends, 61"  # the first number that lacks nothing
+NAME = b"a plan for two ends, 2713"  # the first number that lacks nothing
 LONGEST_MAC = 64  # the limit of one call that receives a MAC
 FIRST, SECOND = 1, 2
 ENDS = {FIRST: "first end", SECOND: "second end"}
 ATTEMPTS = ("key flag", "no operation", "not the last", "cut MAC", "long MAC")
+# A received MAC can't be cut.
+CUT = [flags for flags in OPERATIONS if flags & ~M != RECV_MAC]
+
+
+def mirror(flags):
+    """The same operation at the other end."""
+    return flags ^ I if flags & T else flags
+
+
+class Part:
+    """What the plan gives for one end of an operation."""
+
+    def __init__(self, flags, opening, length, own):
+        size, before, middle = own
+        self.flags = flags
+        # The size of a piece. Nothing is cut here, so whether suffices.
+        self.cut = size >= 192 or size % 32
+        # The opening continues the protocol name, so it needs a last
+        # operation, which edition 1 does not have.
+        editions = (2,) if opening else (1, 2)
+        self.edition = before % 8 if before % 8 in editions else "-"
+        # How many bytes come before the load in the middle.
+        can_load = flags in CUT and middle >= 128
+        self.middle = middle % (length + 1) if can_load else "-"
 
 
 class Step:
     """What the plan gives for an operation."""
 
     def __init__(self, plan, opening):
-        told = plan.call(PRF, False, bytes(8))[1]
+        told = plan.call(PRF, False, bytes(11))[1]
         data = plan.call(PRF, False, bytes(400))[1]
         self.opening = opening
         self.flags = M | AD if opening else OPERATIONS[told[0] % 20]
-        # The sizes of pieces. Nothing is cut here, so whether suffices.
-        self.cut = all(size >= 192 or size % 32 for size in told[1:3])
-        self.data = data[:self.length(told[3], told[4])]
-        saved = told[5] % 8
-        self.saved = saved if saved < 4 and not opening else 0
-        self.who, self.which = told[6] % 8, told[7] % len(ATTEMPTS)
+        length = self.length(told[1], told[2])
+        self.data = data[:length]
+        self.who, self.which = told[3] % 8, told[4] % len(ATTEMPTS)
+        self.parts = {
+            FIRST: Part(self.flags, opening, length, told[5:8]),
+            SECOND: Part(mirror(self.flags), opening, length, told[8:])}
 
     def length(self, high, low):
         """How many bytes it has."""
@@ -54,11 +78,27 @@ def way(flags):
     return "receives" if flags & I else "sends"
 
 
-def tried(step, level):
-    """What comes before an operation, in words."""
+def loads(step, level):
+    """The loads before an operation and in its middle, in words."""
     for end, name in ENDS.items():
-        if step.saved & end:
-            yield f"{level}: a load of the {name}"
+        part = step.parts[end]
+        if step.opening and part.edition == 2:
+            yield f"a load of the {name} before the opening"
+        yield f"{level}: a load of the {name} in edition {part.edition}"
+        # In the middle there are bytes before the load and after it.
+        if part.middle != "-" and 0 < part.middle < len(step.data):
+            if step.opening:
+                yield f"a load of the {name} in the middle of the opening"
+            else:
+                yield (f"{level}: a load of the {name} in the middle of "
+                       f"{part.flags:02x}")
+    editions = [part.edition for part in step.parts.values()]
+    yield f"{level}: loads of both ends in editions {editions}"
+
+
+def tried(step, level):
+    """The refused call before an operation, in words."""
+    for end, name in ENDS.items():
         if step.who == end:
             yield f"{level}: a refused call of the {name}: " + \
                 ATTEMPTS[step.which]
@@ -69,9 +109,10 @@ def tried(step, level):
 def features(steps, level):
     """What a level has, in words."""
     for step in steps:
+        yield from loads(step, level)
         yield from tried(step, level)
         if step.opening:
-            if step.cut:
+            if all(part.cut for part in step.parts.values()):
                 yield f"{level}: an opening that both ends cut"
             continue
         yield f"{level}: an operation {step.flags:02x}"
@@ -87,9 +128,23 @@ def features(steps, level):
     yield f"a level whose first transport the first end {way(transports[0])}"
 
 
+def wanted_loads(level):
+    """The loads that a level must have."""
+    for name in ENDS.values():
+        for edition in (1, 2):
+            yield f"{level}: a load of the {name} in edition {edition}"
+        for flags in CUT:
+            yield f"{level}: a load of the {name} in the middle of {flags:02x}"
+    for editions in ([1, 1], [1, 2], [2, 1], [2, 2]):
+        yield f"{level}: loads of both ends in editions {editions}"
+
+
 def wanted():
     """What the plan must have."""
     yield "a refused call before the opening"
+    for name in ENDS.values():
+        yield f"a load of the {name} before the opening"
+        yield f"a load of the {name} in the middle of the opening"
     for flags in (SEND_MAC, RECV_MAC):
         yield f"a longest MAC that the first end {way(flags)}"
         yield f"a level whose first transport the first end {way(flags)}"
@@ -99,8 +154,8 @@ def wanted():
         yield f"{level}: an operation across two block ends"
         for flags in OPERATIONS:
             yield f"{level}: an operation {flags:02x}"
+        yield from wanted_loads(level)
         for name in ENDS.values():
-            yield f"{level}: a load of the {name}"
             for attempt in ATTEMPTS:
                 yield f"{level}: a refused call of the {name}: {attempt}"
 

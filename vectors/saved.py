@@ -1,11 +1,15 @@
-"""The saved form of a session of strobe.py, edition 1: docs/FORMATS.md."""
+"""The saved form of a session of strobe.py, in both editions:
+docs/FORMATS.md."""
 import sys
 
 sys.dont_write_bytecode = True  # a run leaves no file beside this one
-from strobe import DONE, I, NOT_A_SESSION, RATES, Strobe, blank
+from strobe import (
+    DONE, I, NOT_A_SESSION, OPERATIONS, RATES, Strobe, blank)
 
 BAD_SAVED, SHORT_BUFFER = 10, 11
-SIZE = 205
+SIZES = {1: 205, 2: 206}  # an edition's number, which is its first byte
+SIZE = SIZES[2]  # a save writes edition 2
+NO_LAST = 0xff
 LEVELS = {1: 128, 2: 256}
 DIRECTIONS = {0: None, 1: 0, 2: I}  # the byte, and the I of the first T
 
@@ -15,11 +19,18 @@ def key_of(table, value):
     return next(byte for byte, other in table.items() if other == value)
 
 
-def form(session):
-    """The 205 bytes."""
+def last_byte(session):
+    """The flags of the last operation."""
+    return NO_LAST if session.cur_flags is None else session.cur_flags
+
+
+def form(session, edition):
+    """The bytes of a session. Only edition 2 has a last operation."""
     level = key_of(RATES, session.rate)
-    return bytes([1, key_of(LEVELS, level), session.pos, session.pos_begin,
-                  key_of(DIRECTIONS, session.i0)]) + bytes(session.state)
+    head = [edition, key_of(LEVELS, level), session.pos, session.pos_begin,
+            key_of(DIRECTIONS, session.i0)]
+    tail = [last_byte(session)] if edition == 2 else []
+    return bytes([*head, *session.state, *tail])
 
 
 def save(session, buf):
@@ -28,16 +39,24 @@ def save(session, buf):
         return NOT_A_SESSION, buf
     if len(buf) < SIZE:
         return SHORT_BUFFER, buf
-    return DONE, form(session) + buf[SIZE:]
+    return DONE, form(session, 2) + buf[SIZE:]
+
+
+def fits(data):
+    """Whether the bytes are a form of either edition."""
+    if not data or len(data) != SIZES.get(data[0]) or data[1] not in LEVELS:
+        return False
+    return (data[3] <= data[2] < RATES[LEVELS[data[1]]]
+            and data[4] in DIRECTIONS
+            and (data[0] == 1 or data[205] in (NO_LAST, *OPERATIONS)))
 
 
 def load(data):
     """The answer, and the session."""
-    if len(data) != SIZE or data[0] != 1 or data[1] not in LEVELS:
+    if not fits(data):
         return BAD_SAVED, blank()
-    rate = RATES[LEVELS[data[1]]]
-    if not data[3] <= data[2] < rate or data[4] not in DIRECTIONS:
-        return BAD_SAVED, blank()
-    session = Strobe(data[5:], rate, data[2], data[3])
+    session = Strobe(data[5:205], RATES[LEVELS[data[1]]], data[2], data[3])
     session.i0 = DIRECTIONS[data[4]]
+    if data[0] == 2 and data[205] != NO_LAST:
+        session.cur_flags = data[205]
     return DONE, session

@@ -205,7 +205,7 @@ def turns(lines):
     turn(lines, copy.deepcopy(session), 0x22, False, 1)
     turn(lines, copy.deepcopy(session), SEND_ENC, True, 1)
     turn(lines, copy.deepcopy(session), RECV_MAC, False, 65)
-    turn(lines, copy.deepcopy(session), RECV_MAC, False, 64, 65537, 204)
+    turn(lines, copy.deepcopy(session), RECV_MAC, False, 64, 65537, 205)
     turn(lines, blank(), SEND_ENC, False, 5)
 
 

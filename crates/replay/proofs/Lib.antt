@@ -13,4 +13,5 @@ pub mod Strike
 pub mod Cuts
 pub mod Possible
 pub mod Cutting
+pub mod LeftOut
 pub mod Mistakes

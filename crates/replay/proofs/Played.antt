@@ -7,11 +7,11 @@ use lib.Dec.{ltb}
 use lib.ListN.{length, take, drop}
 use borrow.Author.Tests.{ltb-false}
 use native.Mathlib.Omega.{arith}
-use Rattle.saved.proofs.RoundTrip.{load-of-save, saved-front}
-use Rattle.saved.specs.Saved.{size, form, loaded, Saving, saving, Saves}
+use Rattle.saved.proofs.RoundTrip.{load-of-form, saved-front}
+use Rattle.saved.specs.Saved.{Edition, edition1, edition2, sizeOf, newest, form, loaded, keptBy, Saving, saving, Saves}
 use Rattle.strobe.specs.Answer.{number, done, notASession, shortBuffer}
 use Rattle.strobe.specs.Runs.{Call, effect}
-use Rattle.strobe.specs.Session.{rateOf, spongeOf, seen, Given, Is, Calls}
+use Rattle.strobe.specs.Session.{rateOf, spongeOf, seen, held, Given, Is, Calls}
 use Rattle.strobe.specs.Strobe.{Strobe, Effect, wellFormed, unnamed, fresh}
 use Rattle.strobe.specs.declared.answer.Answer.the-variants.{Done}
 use Rattle.strobe.specs.declared.answer.Answer.{Answer}
@@ -19,51 +19,56 @@ use Rattle.strobe.specs.declared.level.Level.{Level}
 use Rattle.strobe.specs.declared.session.Outcome.{Outcome}
 use Rattle.strobe.specs.declared.session.Session.{Session}
 use Rattle.replay.specs.Each.{Each}
-use Rattle.replay.specs.Editions.{Edition, edition1, formIn, reloaded}
+use Rattle.replay.specs.Editions.{reloaded, holdsLast}
 use Rattle.replay.specs.History.{Entry, entry, ends, log, operations}
+use Rattle.replay.specs.LeftOut.{withoutReloads}
 use Rattle.replay.specs.Mirror.{Mirrors}
 use Rattle.replay.specs.Played.{Step, called, loadedFrom, Returns, Played, entries, acts}
 use Rattle.replay.specs.Replay.{NoneRejected, Replayed}
 use Rattle.replay.specs.Usable.{Usable}
 use Rattle.replay.specs.Whole.{Course}
 use Rattle.replay.proofs.Replay.{replay-courses}
-use Rattle.replay.proofs.Strobe.{sound, reload-keeps, strobe-course}
+use Rattle.replay.proofs.Strobe.{sound, reload-keeps, strobe-course, strobe-reload-anywhere}
 use Rattle.replay.proofs.Usable.{call-usable, reload-usable, fresh-usable}
 
 -- ---- a save that is done writes the form
 
-save-done : (s : Session) (bs : List ℕ) → saving s bs .answer ≡ done → (wellFormed (rateOf (s .level)) (seen s) ≡ true) × (size ≤ length bs)
+save-done : (s : Session) (bs : List ℕ) → saving s bs .answer ≡ done → (wellFormed (rateOf (s .level)) (seen s) ≡ true) × (sizeOf newest ≤ length bs)
 unfolding saving
-save-done s bs e = go (wellFormed (rateOf (s .level)) (seen s)) (ltb (length bs) size) refl e
+save-done s bs e = go (wellFormed (rateOf (s .level)) (seen s)) (ltb (length bs) (sizeOf newest)) refl e
   where
-    go : (w t : Bool) → ltb (length bs) size ≡ t
+    go : (w t : Bool) → ltb (length bs) (sizeOf newest) ≡ t
         → cond {A = Saving} (not w) (record { answer = notASession; lent = bs })
-        (cond t (record { answer = shortBuffer; lent = bs }) (record { answer = done; lent = form s ++ drop size bs })) .answer ≡ done
-        → (w ≡ true) × (size ≤ length bs)
+        (cond t (record { answer = shortBuffer; lent = bs }) (record { answer = done; lent = form newest s ++ drop (sizeOf newest) bs })) .answer ≡ done
+        → (w ≡ true) × (sizeOf newest ≤ length bs)
     go false t h e = absurd (omega arith)
     go true true h e = absurd (omega arith)
     go true false h e = (refl, ltb-false _ _ h)
 
 -- so a load of its front is a step
 pub save-writes-form : (s : Session) (bs : List ℕ) (a : Answer) (bs′ : List ℕ) → length (s .state) ≡ 200 → Saves s bs a bs′ → a ≡ Done
-    → take size bs′ ≡ formIn edition1 s
+    → take (sizeOf newest) bs′ ≡ form newest s
 save-writes-form s bs a bs′ long h e =
     let d = save-done s bs (sym (h .answer) ∙ ap number e) in
-    ap (take size) (h .lent) ∙ saved-front s bs (d .0) (d .1) long .1
+    ap (take (sizeOf newest)) (h .lent) ∙ saved-front s bs (d .0) (d .1) long .1
 
 -- ---- the session behind a step
+
+kept-level : (e : Edition) (s : Session) → keptBy e s .level ≡ s .level
+kept-level edition1 s = refl
+kept-level edition2 s = refl
 
 module _ (s : Session) where
   called-next : (c : Call) (r : Outcome) (bs′ : List ℕ) → Calls s (c .flags) (c .more) (c .bytes) r bs′
       → (r .session .level ≡ s .level) × (seen (r .session) ≡ effect (spongeOf (s .level)) (seen s) c .strobe)
   called-next c r bs′ h = (ap (λ (x : Session). x .level) (h .outcome .session), ap seen (h .outcome .session))
 
-  loaded-next : (e : Edition) (bs : List ℕ) (r : Outcome) → Usable (spongeOf (s .level)) (seen s) → bs ≡ formIn e s → Is (loaded bs) r
+  loaded-next : (e : Edition) (bs : List ℕ) (r : Outcome) → Usable (spongeOf (s .level)) (seen s) → bs ≡ form e s → Is (loaded bs) r
       → (r .session .level ≡ s .level) × (seen (r .session) ≡ reloaded (s .level) e (seen s))
   unfolding reloaded
-  loaded-next edition1 bs r u b h =
-      let from-form : r .session ≡ loaded (form s) .session = h .session ∙ ap (λ (x : List ℕ). loaded x .session) b in (
-        ap (λ (x : Session). x .level) from-form ∙ ap (λ (g : Given). g .session .level) (load-of-save s (u .sized) (u .well)),
+  loaded-next e bs r u b h =
+      let from-form : r .session ≡ loaded (form e s) .session = h .session ∙ ap (λ (x : List ℕ). loaded x .session) b in (
+        ap (λ (x : Session). x .level) from-form ∙ ap (λ (g : Given). g .session .level) (load-of-form e s (u .sized) (u .well)) ∙ kept-level e s,
         ap seen from-form,
       )
 
@@ -119,3 +124,14 @@ module _ (l : Level) (name : List ℕ) where
       → NoneRejected (entries a) → Each Mirrors (operations name (entries a)) (operations name (entries b))
       → Replayed (spongeOf l) name (entries a) (entries b) (seen s) (seen t)
   code-replay a b s t p q = replay-courses (spongeOf l) name (entries a) (entries b) (seen s) (seen t) (code-course a s p) (code-course b t q)
+
+  -- two runs that differ only in loads of edition 2 returned the same, and the same session
+  pub code-reload-anywhere : (a b : List Step) (s t : Session) → Played l name a s → Played l name b t
+      → withoutReloads holdsLast (acts a) ≡ withoutReloads holdsLast (acts b) → (entries a ≡ entries b) × (s ≡ t)
+  code-reload-anywhere a b s t p q h =
+      let d = played a s p in
+      let e = played b t q in
+      let same = strobe-reload-anywhere l name (acts a) (acts b) h in (
+        d .calls ∙ same .0 ∙ sym (e .calls),
+        ap₂ (λ (k : Level) (x : Strobe). held k x) (d .level ∙ sym (e .level)) (d .session ∙ same .1 ∙ sym (e .session)),
+      )

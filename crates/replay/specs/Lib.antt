@@ -8,6 +8,7 @@ pub mod Replay
 pub mod Alike
 pub mod Cuts
 pub mod Strike
+pub mod LeftOut
 pub mod Editions
 pub mod Played
 pub mod Rules

@@ -15,3 +15,7 @@ pub record Kept (s t : Strobe) : Type 0 where
 -- of every usable session
 abbrev pub Keeps : Sponge → (Strobe → Strobe) → Type 0
 Keeps sp reloaded = (s : Strobe) → Usable sp s → Kept s (reloaded s)
+
+-- every usable session is kept whole
+abbrev pub KeepsAll : Sponge → (Strobe → Strobe) → Type 0
+KeepsAll sp reloaded = (s : Strobe) → Usable sp s → reloaded s ≡ s

@@ -2,6 +2,8 @@
 // compared with what they were. Its session goes on: a change of the state or of a position is seen in the lines that follow, one of the direction or
 // of the last operation not always.
 use crate::meaning::LONGEST_MAC;
+use crate::reload;
+use crate::reload::Reload;
 use strobe::Answer;
 use strobe::Flags;
 use strobe::Last;
@@ -66,22 +68,19 @@ fn last_flags(session: Session) -> Flags {
     }
 }
 
-// More of the operation that was last before the save. A load of edition 1 sets no last operation, so the answer is NotTheLast; after a received MAC
-// it is CutMac, as for every session.
-fn went_on(loaded: Session, bytes: [u8; 400], last: Flags) -> Trial {
-    tried(loaded, bytes, last, true)
-}
-
-// The save's answer is not looked at: after a refused one the form is zeros, the load is refused too and gives a blank, and from there on each answer
-// on the lines is NotASession.
-pub fn overnight(session: Session, bytes: [u8; 400], saved: bool) -> Trial {
-    if !saved {
-        return not_tried(session);
+// After a load of edition 1 more of the operation that was last before the save is tried. No last operation is set, so the answer is NotTheLast; after
+// a received MAC it is CutMac, as for every session. After a load of edition 2 the session could go on, so nothing is tried.
+pub fn overnight(session: Session, bytes: [u8; 400], reload: Reload) -> Trial {
+    match reload {
+        Reload::Nothing => not_tried(session),
+        Reload::Edition1 => tried(
+            reload::in_edition_1(session),
+            bytes,
+            last_flags(session),
+            true,
+        ),
+        Reload::Edition2 => not_tried(reload::in_edition_2(session)),
     }
-    let mut form = [0u8; 205];
-    saved::save(session, &mut form);
-    let loaded = saved::load(&form).session;
-    went_on(loaded, bytes, last_flags(session))
 }
 
 // The last operation's other form, meta if that is plain.

@@ -2,6 +2,7 @@
 use crate::before;
 use crate::before::Note;
 use crate::flags;
+use crate::pieces;
 use crate::plan::Part;
 use crate::plan::Step;
 use strobe::Answer;
@@ -14,7 +15,7 @@ pub struct End {
     pub session: Session,
     pub bytes: [u8; 400],
     pub answer: Answer,
-    pub loaded: Note,
+    pub went_on: Note,
     pub refused: Note,
 }
 
@@ -32,36 +33,42 @@ impl End {
             session,
             bytes: [0u8; 400],
             answer,
-            loaded: Note::Nothing,
+            went_on: Note::Nothing,
             refused: Note::Nothing,
         }
     }
 
-    // The operation, in the end's own cuts, on the first of the lent bytes.
-    fn operated(session: Session, lent: [u8; 400], part: Part, loaded: Note, refused: Note) -> End {
+    // The operation on the first of the lent bytes.
+    fn operated(
+        session: Session,
+        lent: [u8; 400],
+        part: Part,
+        went_on: Note,
+        refused: Note,
+    ) -> End {
         let mut bytes = lent;
-        let flags = part.flags;
         let n = part.len();
-        let out = session.call_in_pieces(flags, part.more, part.size, &mut bytes[0..n]);
+        let out = pieces::operate(session, part, &mut bytes[0..n]);
         let session = out.session;
         let answer = out.answer;
         End {
             session,
             bytes,
             answer,
-            loaded,
+            went_on,
             refused,
         }
     }
 
     // The end's part of an operation, with what the plan puts before it.
     fn play(self, part: Part, lent: [u8; 400]) -> End {
-        let morning = before::overnight(self.session, lent, part.saved);
+        let reload = part.reload;
+        let morning = before::overnight(self.session, lent, reload);
         let attempt = part.attempt;
         let still = before::attempted(morning.session, lent, attempt, part.flags);
-        let loaded = morning.note;
+        let went_on = morning.note;
         let refused = still.note;
-        End::operated(still.session, lent, part, loaded, refused)
+        End::operated(still.session, lent, part, went_on, refused)
     }
 }
 

@@ -1,22 +1,40 @@
 // The line of an operation has three parts, each with a semicolon behind it:
 //
 //   its number, the first end's flag byte in hexadecimal, the length
-//   the first end: what it was answered when it went on after a load, when it tried a call that is refused, and to the operation; its position and
-//     begin position, and its bytes after the operation in hexadecimal
+//   the first end: the edition in which it was loaded, what it was answered when it then went on, and when it tried a call that is refused; after how
+//     many bytes of the operation it was loaded in its middle; the operation's answer, its position and begin position, and its bytes after it in
+//     hexadecimal
 //   the second end: the same
 //
-// A `-` is for what was not tried, `changed` for a refused call that changed its bytes, of which there is none. The first
+// A `-` is for what was not done, `changed` for a refused call that changed its bytes, of which there is none. The first
 // line of a level is its version text, the last one has both ends' states.
 use crate::before::Note;
 use crate::ends::End;
 use crate::ends::Ends;
 use crate::output;
+use crate::pieces::Middle;
 use crate::plan::Part;
 use crate::plan::Step;
+use crate::reload::Reload;
 use strobe::Answer;
 
 fn write_answer(answer: Answer) {
     output::write_number(answer.number() as u64);
+}
+
+fn write_edition(reload: Reload) {
+    match reload {
+        Reload::Nothing => output::write_text(b"-"),
+        Reload::Edition1 => output::write_text(b"1"),
+        Reload::Edition2 => output::write_text(b"2"),
+    }
+}
+
+fn write_middle(middle: Middle) {
+    match middle {
+        Middle::Nothing => output::write_text(b"-"),
+        Middle::After(n) => output::write_number(n as u64),
+    }
 }
 
 fn write_note(note: Note) {
@@ -32,15 +50,26 @@ fn write_lent(bytes: [u8; 400], part: Part) {
     output::write_hex(&bytes[0..n]);
 }
 
-fn write_end(end: End, part: Part) {
-    let loaded = end.loaded;
+// What came before the operation's answer, each with the space before it.
+fn write_before(end: End, part: Part) {
+    let reload = part.reload;
+    let went_on = end.went_on;
     let refused = end.refused;
-    let answer = end.answer;
-    let bytes = end.bytes;
+    let middle = part.middle;
     output::write_text(b" ");
-    write_note(loaded);
+    write_edition(reload);
+    output::write_text(b" ");
+    write_note(went_on);
     output::write_text(b" ");
     write_note(refused);
+    output::write_text(b" ");
+    write_middle(middle);
+}
+
+fn write_end(end: End, part: Part) {
+    let answer = end.answer;
+    let bytes = end.bytes;
+    write_before(end, part);
     output::write_text(b" ");
     write_answer(answer);
     output::write_text(b" ");

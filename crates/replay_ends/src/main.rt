@@ -1,12 +1,15 @@
-// Two ends of one channel do 200 operations at each level, each in its own cuts, with saves, loads and refused calls in between. What both have after
-// each operation is written. The crate's stdout has what an independent program, vectors/replay_ends.py, computed for the same operations done whole.
+// Two ends of one channel do 200 operations at each level, each in its own cuts, with saves and loads between the operations and between the cuts, and
+// with refused calls. What both have after each operation is written. The crate's stdout has what an independent program, vectors/replay_ends.py,
+// computed for the same operations done whole.
 mod before;
 mod ends;
 mod flags;
 mod line;
 mod meaning;
 mod output;
+mod pieces;
 mod plan;
+mod reload;
 
 use ends::Ends;
 use strobe::Level;
@@ -20,7 +23,7 @@ struct Game {
 
 // With the number behind its name the plan has all that vectors/replay_plan.py asks of it.
 fn begun(level: Level) -> Game {
-    let plan = Session::new(b"a plan for two ends, 61", level).session;
+    let plan = Session::new(b"a plan for two ends, 2713", level).session;
     output::write_text(&plan.version_str());
     output::write_text(b"\n");
     Game {

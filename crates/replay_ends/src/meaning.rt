@@ -1,15 +1,19 @@
 // What the bytes that the plan gives for an operation mean:
 //
-//   0     which of the twenty operations, as the first end does it
-//   1, 2  the size of a piece at the first end, at the second
-//   3, 4  the length
-//   5     who is saved and loaded again before it
-//   6, 7  who tries a call that is refused before it, and which
+//   0      which of the twenty operations, as the first end does it
+//   1, 2   the length
+//   3, 4   who tries a call that is refused before it, and which
+//   5, 8   the size of a piece at the first end, at the second
+//   6, 9   the edition in which that end is saved and loaded again before it
+//   7, 10  where that end is saved and loaded again in its middle
+ghost use Prim.Native.Nat.{_<_};
 use crate::before::Attempt;
 use crate::flags;
+use crate::pieces::Middle;
+use crate::reload::Reload;
 use strobe::Flags;
 
-// The bits that name an end in bytes 5 and 6.
+// What byte 3 has for an end.
 pub const FIRST: u8 = 1;
 
 pub const SECOND: u8 = 2;
@@ -56,7 +60,9 @@ pub fn size(flags: Flags, byte: u8) -> usize {
 }
 
 // A MAC has any length up to its limit. Of the other lengths one in four is below 400, which can be more than two blocks, the rest are below 48.
-pub fn length(flags: Flags, high: u8, low: u8) -> usize {
+pub fn length(flags: Flags, high: u8, low: u8) -> usize
+    ensures { λ r. ⌜ r < 400 ⌝ }
+{
     if flags::are_of(flags, Flags::SEND_MAC) || flags::are_of(flags, Flags::RECV_MAC) {
         return low as usize % (LONGEST_MAC + 1);
     }
@@ -66,9 +72,26 @@ pub fn length(flags: Flags, high: u8, low: u8) -> usize {
     (low % 48) as usize
 }
 
-// Of eight, 1 is the first end, 2 the second and 3 both.
-pub fn is_saved(byte: u8, end: u8) -> bool {
-    byte % 8 < 4 && byte & end != 0
+// Of eight, 1 is edition 1 and 2 is edition 2. The opening continues the protocol name, which an end that is loaded in edition 1 can't.
+pub fn reload(opening: bool, byte: u8) -> Reload {
+    let edition = byte % 8;
+    if edition == 1 && !opening {
+        return Reload::Edition1;
+    }
+    if edition == 2 {
+        return Reload::Edition2;
+    }
+    Reload::Nothing
+}
+
+// In every second operation, after any number of its bytes that a byte can tell. A received MAC can't be cut.
+pub fn middle(flags: Flags, byte: u8, length: usize) -> Middle
+    requires { ⌜ length < 400 ⌝ }
+{
+    if flags::are_of(flags, Flags::RECV_MAC) || byte < 128 {
+        return Middle::Nothing;
+    }
+    Middle::After(byte as usize % (length + 1))
 }
 
 // Of eight, 1 is the first end and 2 the second.

@@ -3,6 +3,8 @@ ghost use Prim.Native.Nat.{_<_};
 use crate::before::Attempt;
 use crate::flags;
 use crate::meaning;
+use crate::pieces::Middle;
+use crate::reload::Reload;
 use strobe::Flags;
 use strobe::Session;
 
@@ -12,7 +14,8 @@ pub struct Part {
     pub more: bool,
     pub size: usize,
     length: usize,
-    pub saved: bool,
+    pub reload: Reload,
+    pub middle: Middle,
     pub attempt: Attempt,
 }
 
@@ -33,26 +36,33 @@ pub struct Step {
     pub plan: Session,
 }
 
-// The opening continues the protocol name, so no load may come before it. It is long, so that both ends cut it.
-fn part_of(bytes: [u8; 8], opening: bool, flags: Flags, size: u8, end: u8) -> Part {
-    let length = if opening {
-        399
-    } else {
-        meaning::length(flags, bytes[3], bytes[4])
-    };
+// The opening is long, so that both ends cut it.
+fn length(bytes: [u8; 11], opening: bool, flags: Flags) -> usize
+    ensures { λ r. ⌜ r < 400 ⌝ }
+{
+    if opening {
+        return 399;
+    }
+    meaning::length(flags, bytes[1], bytes[2])
+}
+
+// Three of the bytes are the end's own.
+fn part_of(bytes: [u8; 11], opening: bool, flags: Flags, own: [u8; 3], end: u8) -> Part {
+    let length = length(bytes, opening, flags);
     Part {
         flags,
         more: opening,
-        size: meaning::size(flags, size),
+        size: meaning::size(flags, own[0]),
         length,
-        saved: !opening && meaning::is_saved(bytes[5], end),
-        attempt: meaning::attempt(bytes[6], bytes[7], end),
+        reload: meaning::reload(opening, own[1]),
+        middle: meaning::middle(flags, own[2], length),
+        attempt: meaning::attempt(bytes[3], bytes[4], end),
     }
 }
 
 // One prf says what is done, a second one gives the data.
 pub fn drawn(plan: Session, opening: bool) -> Step {
-    let mut bytes = [0u8; 8];
+    let mut bytes = [0u8; 11];
     let told = plan.prf(&mut bytes, false);
     let mut data = [0u8; 400];
     let filled = told.session.prf(&mut data, false);
@@ -61,14 +71,16 @@ pub fn drawn(plan: Session, opening: bool) -> Step {
     } else {
         meaning::operation(bytes[0])
     };
+    let first = [bytes[5], bytes[6], bytes[7]];
+    let second = [bytes[8], bytes[9], bytes[10]];
     let plan = filled.session;
     Step {
-        first: part_of(bytes, opening, flags, bytes[1], meaning::FIRST),
+        first: part_of(bytes, opening, flags, first, meaning::FIRST),
         second: part_of(
             bytes,
             opening,
             flags::mirror(flags),
-            bytes[2],
+            second,
             meaning::SECOND,
         ),
         data,

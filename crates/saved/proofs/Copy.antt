@@ -1,10 +1,10 @@
--- The state's bytes are copied out of a saved form and into it. Assumes nothing.
+-- The state's bytes are copied out of a saved form and into it, and the byte behind them is set. Assumes nothing.
 use Prim.Native.Nat.{ℕ, _≤_}
 use mathlib.Core.Path.{_≡_, refl, sym, ap, ap₂, _∙_}
-use mathlib.Core.List.{List, [], _∷_, _++_, append-nil}
+use mathlib.Core.List.{List, [], _∷_, _++_, append-nil, append-assoc}
 use native.Mathlib.Omega.{arith}
-use lib.ListN.{length, set, take, drop, length-set, length-append, length-drop, drop-of-length-le}
-use lib.Seq.{length-take-le, take-all}
+use lib.ListN.{length, getD, set, take, drop, length-set, length-append, length-drop, drop-of-length-le}
+use lib.Seq.{length-take-le, take-all, drop-cons, set-at}
 use borrow.Rule.Slice.PartMut.{midOf, putMid, post-is}
 
 -- a copy that fills its place leaves nothing of what was there
@@ -43,14 +43,22 @@ length-head : (b : List ℕ) (x₀ x₁ x₂ x₃ x₄ : ℕ) → length (headed
 length-head b x₀ x₁ x₂ x₃ x₄ = simp length-set
 
 -- five bytes are set, and a copy of the state fills the part behind them
-pub form-written : (buf state : List ℕ) (x₀ x₁ x₂ x₃ x₄ : ℕ) → length state ≡ 200 → 205 ≤ length buf
+pub form-written : (buf state copied : List ℕ) (x₀ x₁ x₂ x₃ x₄ : ℕ) → length state ≡ 200 → 205 ≤ length buf
     → let l = headed buf x₀ x₁ x₂ x₃ x₄ in
-    putMid 5 200 l (take (length state) state ++ drop (length state) (midOf 5 200 l)) ≡ (x₀ ∷ x₁ ∷ x₂ ∷ x₃ ∷ x₄ ∷ state) ++ drop 205 buf
-form-written buf state x₀ x₁ x₂ x₃ x₄ n h =
+    copied ≡ take (length state) state ++ drop (length state) (midOf 5 200 l)
+    → putMid 5 200 l copied ≡ (x₀ ∷ x₁ ∷ x₂ ∷ x₃ ∷ x₄ ∷ state) ++ drop 205 buf
+form-written buf state copied x₀ x₁ x₂ x₃ x₄ n h e =
     let l = headed buf x₀ x₁ x₂ x₃ x₄ in
-    ap (putMid 5 200 l) (copy-fills state (midOf 5 200 l) (n ∙ sym (state-length l (omega (arith, length-head buf x₀ x₁ x₂ x₃ x₄)))))
+    ap (putMid 5 200 l) (e ∙ copy-fills state (midOf 5 200 l) (n ∙ sym (state-length l (omega (arith, length-head buf x₀ x₁ x₂ x₃ x₄)))))
     ∙ ap₂ (λ (x y : List ℕ). x ++ (state ++ y)) (take-head buf x₀ x₁ x₂ x₃ x₄ (omega arith)) (post-is 5 205 l (omega arith) ∙ drop-head buf x₀ x₁ x₂ x₃ x₄ (omega arith))
 
-pub written-length : (buf state : List ℕ) (x₀ x₁ x₂ x₃ x₄ : ℕ) → length state ≡ 200 → 205 ≤ length buf
-    → length ((x₀ ∷ x₁ ∷ x₂ ∷ x₃ ∷ x₄ ∷ state) ++ drop 205 buf) ≡ length buf
-written-length buf state x₀ x₁ x₂ x₃ x₄ n h = omega (arith, n, length-append state (drop 205 buf), length-drop 205 buf)
+-- then the byte behind it
+pub last-written : (buf front : List ℕ) (last : ℕ) → length front ≡ 205 → 206 ≤ length buf
+    → set (front ++ drop 205 buf) 205 last ≡ (front ++ last ∷ []) ++ drop 206 buf
+last-written buf front last n h =
+    ap (λ (xs : List ℕ). set (front ++ xs) 205 last) (drop-cons buf 205 0 (omega arith))
+    ∙ set-at front (getD buf 205 0) (drop 206 buf) last 205 n
+    ∙ sym (append-assoc front (last ∷ []) (drop 206 buf))
+
+pub written-length : (buf front : List ℕ) (last : ℕ) → length front ≡ 205 → 206 ≤ length buf → length ((front ++ last ∷ []) ++ drop 206 buf) ≡ length buf
+written-length buf front last n h = omega (arith, n, length-append (front ++ last ∷ []) (drop 206 buf), length-append front (last ∷ []), length-drop 206 buf)

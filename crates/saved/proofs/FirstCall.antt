@@ -1,4 +1,5 @@
--- A session that was saved and loaded again, and the one that was saved: they differ only until the first operation is opened. Assumes nothing.
+-- A session that was saved and loaded again, and the one that was saved: no call tells them apart in edition 2, and in edition 1 they differ only until
+-- the first operation is opened. Assumes nothing.
 use Prim.Native.Nat.{ℕ, zero, suc}
 use mathlib.Core.Path.{_≡_, refl, ap, _∙_}
 use mathlib.Core.List.{List, [], _∷_}
@@ -17,8 +18,8 @@ use Rattle.strobe.specs.Session.{rateOf, spongeOf, seen}
 use Rattle.strobe.specs.Strobe.{Strobe, opened, wellFormed, refusal, settled, call}
 use Rattle.strobe.specs.declared.flags.Flags.{Flags}
 use Rattle.strobe.specs.declared.session.Session.{Session}
-use Rattle.saved.specs.Saved.{form, loaded}
-use Rattle.saved.proofs.RoundTrip.{load-of-save}
+use Rattle.saved.specs.Saved.{edition1, edition2, form, loaded}
+use Rattle.saved.proofs.RoundTrip.{load-of-form}
 use Rattle.saved.specs.AfterLoad.{withoutLast, waiting, kept, loadedAfter, savedAfter, AfterLoad}
 
 opening-opens : (c : Call) (cs : List Call) → c .more ≡ false → opens (c ∷ cs) ≡ true
@@ -129,5 +130,12 @@ calls-without-last sp s w cs c =
 -- ---- a session that was saved and loaded
 
 pub first-call-after-load : (s : Session) → length (s .state) ≡ 200 → wellFormed (rateOf (s .level)) (seen s) ≡ true → (cs : List Call) (c : Call)
-    → let l = loaded (form s) .session in AfterLoad (spongeOf (l .level)) (seen s) (seen l) cs c
-first-call-after-load s e w cs c = rw (load-of-save s e w) (calls-without-last (spongeOf (s .level)) (seen s) w cs c)
+    → let l = loaded (form edition1 s) .session in AfterLoad (spongeOf (l .level)) (seen s) (seen l) cs c
+first-call-after-load s e w cs c = rw (load-of-form edition1 s e w) (calls-without-last (spongeOf (s .level)) (seen s) w cs c)
+
+-- in edition 2 no first call is special
+pub every-call-after-load : (s : Session) → length (s .state) ≡ 200 → wellFormed (rateOf (s .level)) (seen s) ≡ true → (cs : List Call) (c : Call)
+    → let l = loaded (form edition2 s) .session in
+    let sp = spongeOf (l .level) in
+    (effect sp (ran sp (seen l) cs) c ≡ effect sp (ran sp (seen s) cs) c)
+every-call-after-load s e w cs c = rw (load-of-form edition2 s e w)

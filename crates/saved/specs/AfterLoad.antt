@@ -1,5 +1,5 @@
--- A session that was saved and loaded again, beside the session that was saved: what the calls on it come to. A load sets no last operation
--- (docs/FORMATS.md, section 1).
+-- A session that was saved and loaded again in edition 1, beside the session that was saved: what the calls on it come to. A load of that edition sets no
+-- last operation (docs/FORMATS.md, section 1).
 use mathlib.Core.Bool.{true, false, not, cond}
 use mathlib.Core.List.{List}
 use mathlib.Core.Path.{_≡_}
@@ -12,7 +12,7 @@ use Rattle.strobe.specs.Strobe.{Strobe}
 use Rattle.strobe.specs.declared.flags.Flags.{Flags}
 use Rattle.strobe.specs.declared.last.Last.the-variants.{Nothing}
 
--- the session that a load gives back
+-- the session that such a load gives back
 abbrev pub withoutLast : Strobe → Strobe
 withoutLast s = record { duplex = s .duplex; direction = s .direction; last = Nothing }
 

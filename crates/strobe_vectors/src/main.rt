@@ -1,6 +1,7 @@
 // Runs STROBE sessions and writes what each call leaves. The crate's stdout has what an independent
 // program, vectors/strobe_vectors.py, computed for the same calls.
 mod data;
+mod editions;
 mod ends;
 mod forms;
 mod line;
@@ -11,6 +12,7 @@ mod output;
 mod pieces;
 mod refusals;
 mod sequence;
+mod trials;
 mod turns;
 mod version;
 

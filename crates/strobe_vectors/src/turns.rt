@@ -195,7 +195,7 @@ pub fn write() {
             more: false,
             size: 64,
             count: 65537,
-            room: 204,
+            room: 205,
         },
     );
     take(Session::blank(), usual(0x0e, false, 5));

@@ -30,11 +30,19 @@ cast-write-form-2 c =
 returns-3 : tie.Need-returns-3
 unfolding form
 returns-3 c =
-    let said = saves-done (c .before .before .before .before .before .before .before .before .before .before .before .before .before .args .session) _ (sym (c .before .before .before .before .before .before .before .before .before .before .before .well-formed .ensures) ∙ not-false _ (c .before .before .before .before .before .before .before .before .before .before .if1 .left)) (c .before .before .before .before .before .before .before .before .before .if2 .left) in
-    record { answer = said .answer; lent = rw (c .before .before .before .before .before .before .before .level-byte .ensures, c .before .before .before .before .direction-byte .ensures) at (c .before .before .write-form .ensures) ∙ said .lent }
+    -- behind the last call, behind the first, and behind the tests
+    let last = c .before .before .before .before in
+    let first = last .before .before .before .before in
+    let tested = first .before .before in
+    let t = tested .before in
+    let said = saves-done (t .before .before .before .args .session) _ (sym (t .before .well-formed .ensures) ∙ not-false _ (t .if1 .left)) (tested .if2 .left) in
+    record {
+      answer = said .answer;
+      lent = rw (first .level-byte .ensures, last .before .direction-byte .ensures, last .last-byte .ensures) at (c .before .before .write-form .ensures) ∙ said .lent;
+    }
 
 pub save-spec : {M : Type 1} → statement M
 save-spec =
     tie.close
     (tie.spec (λ c κs. search needs) returns returns-2 (λ c κs. search needs) cast-write-form cast-write-form-2 (λ c κs. search needs) (λ c κs. search needs)
-    (λ c. search needs) returns-3)
+    (λ c κs. search needs) (λ c. search needs) returns-3)
