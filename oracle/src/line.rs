@@ -90,6 +90,11 @@ impl Line {
         }
     }
 
+    /// Goes on with an operation.
+    pub fn has_more(&self) -> bool {
+        matches!(self, Line::Call { more: true, .. } | Line::Count { more: true, .. })
+    }
+
     /// Of a text without its newline.
     pub fn read(text: &[u8], is_first: bool) -> Line {
         let line = if is_first { first(text) } else { later(text) };

@@ -17,8 +17,8 @@ pub struct Answer {
 /// A session, or a blank.
 pub struct Oracle {
     session: Option<Strobe>,
-    /// the saved forms of this case, each with the session that was saved
-    saved: Vec<([u8; rules::FORM_SIZE], Strobe)>,
+    /// the saved forms of this case in both editions, each with the session that it gives
+    saved: Vec<(Vec<u8>, Strobe)>,
 }
 
 fn level_of(byte: u8) -> Option<SecParam> {
@@ -45,28 +45,34 @@ fn direction_byte(is_receiver: Option<bool>) -> u8 {
     }
 }
 
-fn form_of(session: &Strobe) -> [u8; rules::FORM_SIZE] {
+fn form_of(session: &Strobe) -> rules::Form {
     let parts = session.parts();
-    let mut form = [0; rules::FORM_SIZE];
-    form[0] = 1;
+    let mut form = [0; rules::EDITION_2.size];
+    form[0] = rules::EDITION_2.number;
     form[1] = level_byte(session);
     form[2] = parts.position as u8;
     form[3] = parts.begin as u8;
     form[4] = direction_byte(parts.is_receiver);
-    form[5..].copy_from_slice(&parts.state);
+    form[rules::STATE].copy_from_slice(&parts.state);
+    form[rules::LAST] = parts.last.unwrap_or(rules::NO_LAST);
     form
 }
 
 /// What a well-formed saved form holds.
 fn in_form(form: &[u8]) -> Strobe {
-    let level = level_of(form[1]).expect("a well-formed saved form");
+    let level = level_of(form[1]).expect("a level");
     Strobe::new(b"", level).with_parts(&Parts {
-        state: form[5..].try_into().unwrap(),
+        state: form[rules::STATE].try_into().unwrap(),
         position: usize::from(form[2]),
         begin: usize::from(form[3]),
         is_receiver: [None, Some(false), Some(true)][usize::from(form[4])],
-        last: None,
+        last: rules::last_in(form).expect("FF or an operation"),
     })
+}
+
+/// A clone with the last operation cleared.
+fn without_last(session: &Strobe) -> Strobe {
+    session.with_parts(&Parts { last: None, ..session.parts() })
 }
 
 impl Oracle {
@@ -113,22 +119,23 @@ impl Oracle {
     fn save(&mut self, mut lent: Vec<u8>) -> Answer {
         let number = match &self.session {
             None => rules::NOT_A_SESSION,
-            Some(_) if lent.len() < rules::FORM_SIZE => rules::SHORT_BUFFER,
+            Some(_) if lent.len() < rules::EDITION_2.size => rules::SHORT_BUFFER,
             Some(session) => {
                 let form = form_of(session);
-                lent[..rules::FORM_SIZE].copy_from_slice(&form);
-                self.saved.push((form, session.clone()));
+                lent[..form.len()].copy_from_slice(&form);
+                self.saved.push((form.to_vec(), session.clone()));
+                self.saved.push((rules::in_edition(&rules::EDITION_1, &form), without_last(session)));
                 rules::DONE
             }
         };
         Answer { number, lent }
     }
 
-    /// A form that was saved in this case gives a clone of the saved session with the last operation cleared.
+    /// A form that was saved in this case gives a clone, and other bytes in the right form a session with just these parts.
     fn load(&mut self, lent: Vec<u8>) -> Answer {
-        let saved = self.saved.iter().find(|(form, _)| form[..] == lent[..]);
+        let saved = self.saved.iter().find(|(form, _)| *form == lent);
         self.session = match saved {
-            Some((_, session)) => Some(session.with_parts(&Parts { last: None, ..session.parts() })),
+            Some((_, session)) => Some(session.clone()),
             None => rules::is_form(&lent).then(|| in_form(&lent)),
         };
         let number = if self.session.is_some() { rules::DONE } else { rules::BAD_SAVED };
@@ -161,13 +168,18 @@ impl Oracle {
         self.session.as_ref().map(level_byte)
     }
 
+    /// The position of the session, if there is one.
+    pub fn position(&self) -> Option<usize> {
+        self.session.as_ref().map(|session| session.parts().position)
+    }
+
     /// The last operation.
     pub fn last(&self) -> Option<u8> {
         self.session.as_ref().and_then(|session| session.parts().last)
     }
 
     /// The saved form of the session, if there is one.
-    pub fn form(&self) -> Option<[u8; rules::FORM_SIZE]> {
+    pub fn form(&self) -> Option<rules::Form> {
         self.session.as_ref().map(form_of)
     }
 

@@ -3,7 +3,7 @@
 use crate::cases::Share;
 use crate::line::Line;
 use crate::pen::Case;
-use crate::rules::{is_accepted, KEY_FLAG, NAMED, NOT_THE_LAST};
+use crate::rules::{is_accepted, plain, KEY_FLAG, NAMED, NOT_THE_LAST, RECV_MAC};
 use std::collections::BTreeMap;
 use std::fmt;
 
@@ -69,12 +69,37 @@ impl Kind {
 const CALLS: usize = 1_000_000;
 const TIMES: usize = 1_000;
 
+/// And pieces right behind a load, of each operation that can be cut at each level.
+const PIECES: usize = 100;
+
+/// How often a kind was called. What is by level has 128 first.
+#[derive(Clone, Copy, Default)]
+struct Times {
+    accepted: [usize; 2],
+    refused: usize,
+    /// of the accepted those that go on with an operation right behind a load
+    gone_on: [usize; 2],
+}
+
+impl Times {
+    /// With the level byte of an accepted call.
+    fn add(&mut self, level: Option<u8>, goes_on: bool) {
+        match level {
+            Some(level) => {
+                let at = usize::from(level) - 1;
+                self.accepted[at] += 1;
+                self.gone_on[at] += usize::from(goes_on);
+            }
+            None => self.refused += 1,
+        }
+    }
+}
+
 #[derive(Default)]
 pub struct Report {
     /// by family: cases and lines
     families: Vec<(&'static str, usize, usize)>,
-    /// by kind: accepted at level 128, accepted at level 256, refused
-    kinds: BTreeMap<Kind, [usize; 3]>,
+    kinds: BTreeMap<Kind, Times>,
     answers: [usize; ANSWERS.len()],
     /// calls that strobe-rs answers: it returns, or panics
     answered: usize,
@@ -91,6 +116,7 @@ impl Report {
         let (_, cases, lines) = self.families.last_mut().expect("a family");
         *cases += 1;
         *lines += case.lines.len();
+        let mut behind_load = false;
         for ((line, answer), level) in case.lines.iter().zip(&case.answers).zip(&case.levels) {
             // A number that is none of the answers is about to differ.
             if let Some(times) = self.answers.get_mut(usize::from(answer.number)) {
@@ -100,24 +126,25 @@ impl Report {
             if kind.is_answered(answer.number) {
                 self.answered += 1;
             }
-            let column = match level {
-                Some(level) if is_accepted(answer.number) => usize::from(*level) - 1,
-                _ => 2,
-            };
-            self.kinds.entry(kind).or_default()[column] += 1;
+            let goes_on = behind_load && line.has_more();
+            self.kinds.entry(kind).or_default().add(level.filter(|_| is_accepted(answer.number)), goes_on);
+            behind_load = kind == Kind::Load;
         }
+    }
+
+    fn times(&self, kind: Kind) -> Times {
+        self.kinds.get(&kind).copied().unwrap_or_default()
     }
 
     /// Lines out of shape are no calls.
     fn calls(&self) -> usize {
-        let bad = self.kinds.get(&Kind::BadLine).map_or(0, |times| times[2]);
-        self.answers.iter().sum::<usize>() - bad
+        self.answers.iter().sum::<usize>() - self.times(Kind::BadLine).refused
     }
 
     /// What a run lacks, if anything. A part of the cases has to reach half of its share.
     pub fn lacks(&self, share: Share) -> Vec<String> {
         let part = if share.one_of == 1 { 1 } else { 2 * share.one_of };
-        let (calls, times) = (CALLS / part, TIMES / part);
+        let (calls, times, pieces) = (CALLS / part, TIMES / part, PIECES / part);
         let mut lacks = Vec::new();
         if self.answered < calls {
             lacks.push(format!("strobe-rs answered {} calls, not {calls}", self.answered));
@@ -127,10 +154,14 @@ impl Report {
                 lacks.push(format!("answer {number} was given {given} times, not {times}"));
             }
         }
-        for (at, (_, name)) in NAMED.iter().enumerate() {
-            let [low, high, _] = self.kinds.get(&Kind::Operation(at)).copied().unwrap_or_default();
+        for (at, (flags, name)) in NAMED.iter().enumerate() {
+            let Times { accepted: [low, high], gone_on, .. } = self.times(Kind::Operation(at));
             if low.min(high) < times {
                 lacks.push(format!("{name} was done {low} and {high} times, not {times}"));
+            }
+            let [low, high] = gone_on;
+            if low.min(high) < pieces && plain(*flags) != RECV_MAC {
+                lacks.push(format!("{name} went on behind a load {low} and {high} times, not {pieces}"));
             }
         }
         lacks
@@ -143,9 +174,12 @@ impl fmt::Display for Report {
         for (name, cases, lines) in &self.families {
             writeln!(out, "| {cases} | {lines} | {name} |")?;
         }
-        writeln!(out, "\n## Calls\n\n| Call | Accepted at 128 | Accepted at 256 | Refused |\n|---|---|---|---|")?;
-        for (kind, [low, high, refused]) in &self.kinds {
-            writeln!(out, "| {} | {low} | {high} | {refused} |", kind.name())?;
+        writeln!(out, "\n## Calls\n\nThe last two columns count those accepted with `more` on right behind a load.\n")?;
+        writeln!(out, "| Call | Accepted at 128 | Accepted at 256 | Refused | Gone on at 128 | Gone on at 256 |")?;
+        writeln!(out, "|---|---|---|---|---|---|")?;
+        for (kind, Times { accepted: [low, high], refused, gone_on }) in &self.kinds {
+            let name = kind.name();
+            writeln!(out, "| {name} | {low} | {high} | {refused} | {} | {} |", gone_on[0], gone_on[1])?;
         }
         writeln!(out, "\n## Answers\n\n| Answer | | Times |\n|---|---|---|")?;
         for (number, times) in self.answers.iter().enumerate() {

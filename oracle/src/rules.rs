@@ -1,6 +1,8 @@
 //! What docs/RULES.md, docs/FORMATS.md and docs/JOURNAL.md fix and strobe-rs does not have: the flag bytes by number, the answers, the limits, and which
 //! bytes are a saved form.
 
+use std::ops::Range;
+
 pub const I: u8 = 0x01;
 pub const C: u8 = 0x04;
 pub const M: u8 = 0x10;
@@ -75,11 +77,10 @@ pub fn is_accepted(answer: u8) -> bool {
     [DONE, MAC_UNEQUAL].contains(&answer)
 }
 
-// The limits of one call, of a line's name or payload, and the size of a saved form.
+// The limits of one call, and of a line's name or payload.
 pub const RATCHET_LIMIT: usize = 65_536;
 pub const MAC_LIMIT: usize = 64;
 pub const PAYLOAD_LIMIT: usize = 4_096;
-pub const FORM_SIZE: usize = 205;
 
 /// By level byte: 1 is 128, 2 is 256.
 pub fn rate(level: u8) -> usize {
@@ -123,12 +124,51 @@ pub fn is_too_long(flags: u8, length: usize) -> bool {
     }
 }
 
-/// A session's saved form, edition 1.
+/// An edition of the saved form: its first byte, and how many there are.
+pub struct Edition {
+    pub number: u8,
+    pub size: usize,
+}
+
+/// Ends with the state. It is loaded, and no longer saved.
+pub const EDITION_1: Edition = Edition { number: 1, size: 205 };
+
+/// Has the last operation's flag byte behind the state. A save writes it.
+pub const EDITION_2: Edition = Edition { number: 2, size: 206 };
+
+pub const EDITIONS: [Edition; 2] = [EDITION_1, EDITION_2];
+
+/// Where both have the state, and where edition 2 has the last operation.
+pub const STATE: Range<usize> = 5..205;
+pub const LAST: usize = 205;
+
+/// Stands there for none.
+pub const NO_LAST: u8 = 0xff;
+
+/// What a save writes.
+pub type Form = [u8; EDITION_2.size];
+
+/// The same form in this edition.
+pub fn in_edition(edition: &Edition, form: &Form) -> Vec<u8> {
+    let mut bytes = form[..edition.size].to_vec();
+    bytes[0] = edition.number;
+    bytes
+}
+
+/// The last operation, if there is one, unless its byte is wrong. Edition 1 ends before it.
+pub fn last_in(form: &[u8]) -> Option<Option<u8>> {
+    match form.get(LAST) {
+        None | Some(&NO_LAST) => Some(None),
+        Some(&flags) => is_operation(flags).then_some(Some(flags)),
+    }
+}
+
+/// A session's saved form, in one of the editions.
 pub fn is_form(bytes: &[u8]) -> bool {
-    bytes.len() == FORM_SIZE
-        && bytes[0] == 1
+    EDITIONS.iter().any(|edition| bytes.len() == edition.size && bytes[0] == edition.number)
         && (bytes[1] == 1 || bytes[1] == 2)
         && usize::from(bytes[2]) < rate(bytes[1])
         && bytes[3] <= bytes[2]
         && bytes[4] <= 2
+        && last_in(bytes).is_some()
 }

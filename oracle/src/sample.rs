@@ -4,11 +4,20 @@ use crate::cases;
 use crate::line::Line;
 use crate::pen::Case;
 use crate::report::Kind;
-use crate::rules::{is_accepted, rate};
+use crate::rules::{is_accepted, last_in, rate, EDITIONS};
 use std::collections::BTreeSet;
 
-/// What two like lines share: the kind of call, the answer, the level; of accepted calls also `more`, and whether it has a block or more.
-type Look = (Kind, u8, Option<u8>, Option<(bool, bool)>);
+/// Bytes to load: the first one and the size, each of an edition, if not of the same one; and whether they have a last operation, unless its byte is wrong.
+type Shape = (u8, usize, Option<bool>);
+
+/// What two like lines share.
+#[derive(PartialEq, Eq, PartialOrd, Ord)]
+enum Look {
+    /// the kind of call, the answer, the level; of accepted calls also `more`, and whether it has a block or more
+    Call(Kind, u8, Option<u8>, Option<(bool, bool)>),
+    /// of a load, and of an accepted call that goes on right behind one: the same three, and what was loaded
+    Loaded(Kind, u8, Option<u8>, Shape),
+}
 
 /// A case of more lines is not kept, so that the sample stays small.
 const LINES: usize = 20;
@@ -22,15 +31,27 @@ fn length(line: &Line) -> usize {
     }
 }
 
-fn look(line: &Line, answer: u8, level: Option<u8>) -> Look {
-    let more = matches!(line, Line::Call { more: true, .. } | Line::Count { more: true, .. });
-    let accepted = level.filter(|_| is_accepted(answer));
-    (Kind::of(line), answer, level, accepted.map(|level| (more, length(line) >= rate(level))))
+fn shape(line: &Line) -> Option<Shape> {
+    let bytes = if let Line::Load(bytes) = line { bytes } else { return None };
+    let number = EDITIONS.iter().find(|edition| bytes.first() == Some(&edition.number))?.number;
+    let size = EDITIONS.iter().find(|edition| bytes.len() == edition.size)?.size;
+    Some((number, size, last_in(bytes).map(|last| last.is_some())))
 }
 
 fn looks(case: &Case) -> BTreeSet<Look> {
-    let lines = case.lines.iter().zip(&case.answers).zip(&case.levels);
-    lines.map(|((line, answer), level)| look(line, answer.number, *level)).collect()
+    let mut looks = BTreeSet::new();
+    let mut before = None;
+    for ((line, answer), level) in case.lines.iter().zip(&case.answers).zip(&case.levels) {
+        let (kind, number) = (Kind::of(line), answer.number);
+        let accepted = level.filter(|_| is_accepted(number));
+        let detail = accepted.map(|level| (line.has_more(), length(line) >= rate(level)));
+        looks.insert(Look::Call(kind, number, *level, detail));
+        let loaded = shape(line);
+        let behind = before.filter(|_| line.has_more() && accepted.is_some());
+        looks.extend(loaded.or(behind).map(|shape| Look::Loaded(kind, number, *level, shape)));
+        before = loaded;
+    }
+    looks
 }
 
 /// The kept cases.

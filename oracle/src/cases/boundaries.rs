@@ -16,14 +16,18 @@ fn at(draw: &mut Draw, level: u8, position: usize) -> Pen {
     pen
 }
 
+/// What is left of the block when an operation is opened at this position: it mixes two bytes in, and C closes the block.
+pub fn left(level: u8, position: usize, flags: u8) -> usize {
+    let opened = if flags & C != 0 { 0 } else { (position + 2) % rate(level) };
+    rate(level) - opened
+}
+
 /// Each operation from each position, empty, short, and up to the end of the block, one byte less and one more.
 pub fn positions(offering: &mut Offering) {
     for level in LEVELS {
         for position in 0..rate(level) {
             for flags in operations() {
-                // C closes the block when the operation is opened
-                let opened = if flags & C != 0 { 0 } else { (position + 2) % rate(level) };
-                let left = rate(level) - opened;
+                let left = left(level, position, flags);
                 for length in [0, 1, left - 1, left, left + 1] {
                     offering.offer(|draw| {
                         let mut pen = at(draw, level, position);

@@ -6,7 +6,9 @@ use super::{Offering, LEVELS};
 use crate::draw::Draw;
 use crate::line::Line;
 use crate::pen::Pen;
-use crate::rules::{operations, plain, FORM_SIZE, MAC_LIMIT, RATCHET, RATCHET_LIMIT, RECV_MAC};
+use crate::rules::{
+    in_edition, operations, plain, Form, EDITION_1, EDITION_2, MAC_LIMIT, RATCHET, RATCHET_LIMIT, RECV_MAC,
+};
 
 const CASES: usize = 11_500;
 const LINES: usize = 80;
@@ -43,19 +45,20 @@ fn call(draw: &mut Draw, pen: &mut Pen, level: u8) {
     operation(draw, pen, flags, more, level);
 }
 
-/// What was saved is loaded later; at times it is damaged, so that all is refused until a good one is loaded.
-fn overnight(draw: &mut Draw, pen: &mut Pen, kept: &mut Vec<u8>) {
+/// What was saved is loaded later, mostly in edition 2; at times it is damaged, so that all is refused until a good one is loaded.
+fn overnight(draw: &mut Draw, pen: &mut Pen, kept: &mut Form) {
     if draw.once_in(2) {
-        let buffer = FORM_SIZE - 2 + draw.below(6);
+        let buffer = EDITION_2.size - 2 + draw.below(6);
         let buffer = draw.bytes(buffer);
         if let Some(form) = pen.session().form() {
-            *kept = form.to_vec();
+            *kept = form;
         }
         return pen.write(Line::Save(buffer));
     }
-    let mut form = kept.clone();
-    if draw.once_in(3) && !form.is_empty() {
-        let at = draw.below(6);
+    let edition = if draw.once_in(4) { EDITION_1 } else { EDITION_2 };
+    let mut form = in_edition(&edition, kept);
+    if draw.once_in(3) {
+        let at = draw.pick(&[0, 1, 2, 3, 4, 5, edition.size - 1]);
         form[at] = form[at].wrapping_add(draw.number() as u8);
     }
     pen.write(Line::Load(form));
@@ -65,7 +68,7 @@ fn overnight(draw: &mut Draw, pen: &mut Pen, kept: &mut Vec<u8>) {
 fn sequence(draw: &mut Draw, level: u8, saves: bool) -> Pen {
     let name = length(draw, level);
     let mut pen = Pen::of(level, draw.bytes(name));
-    let mut kept = pen.session().form().expect("a session").to_vec();
+    let mut kept = pen.session().form().expect("a session");
     for _ in 0..LINES {
         match draw.below(24) {
             0 => later_line(draw, &mut pen),

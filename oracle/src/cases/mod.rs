@@ -5,6 +5,7 @@ mod drawn;
 mod forms;
 mod lines;
 mod macs;
+mod reloads;
 mod short;
 mod streams;
 
@@ -29,7 +30,7 @@ pub struct Family {
     offer: fn(&mut Offering),
 }
 
-static FAMILIES: [Family; 12] = [
+static FAMILIES: [Family; 13] = [
     Family { name: "pairs of operations of 0 to 3 bytes", is_journal: false, offer: short::pairs },
     Family { name: "every flag byte", is_journal: false, offer: short::flag_bytes },
     Family { name: "every value of a byte", is_journal: false, offer: short::byte_values },
@@ -38,6 +39,7 @@ static FAMILIES: [Family; 12] = [
     Family { name: "the limits of a call", is_journal: false, offer: boundaries::limits },
     Family { name: "operations in pieces", is_journal: false, offer: streams::streams },
     Family { name: "MACs, right and damaged", is_journal: false, offer: macs::macs },
+    Family { name: "saves and loads between pieces", is_journal: false, offer: reloads::reloads },
     Family { name: "saved forms, right and damaged", is_journal: false, offer: forms::forms },
     Family { name: "first lines", is_journal: false, offer: lines::first_lines },
     Family { name: "lines out of shape", is_journal: true, offer: lines::spoilt_lines },
