@@ -94,7 +94,7 @@ module _ (l : Level) (name : List ℕ) where
       reload-anywhere (spongeOf l) (sound l) (reloaded l) (reload-keeps l) holdsLast (reload-keeps-all l) a b (fresh (spongeOf l) name)
       (fresh-usable (spongeOf l) (sound l) name)
 
-  -- one of them, with any acts before it and behind it
+  -- one reload of edition 2, with any acts before it and behind it
   pub strobe-reload-between : (a b : List (Act Edition))
       → (logOf (a ++ reload edition2 ∷ b) ≡ logOf (a ++ b)) × (endOf (a ++ reload edition2 ∷ b) ≡ endOf (a ++ b))
   strobe-reload-between a b = strobe-reload-anywhere (a ++ reload edition2 ∷ b) (a ++ b) (left-out-between a b)

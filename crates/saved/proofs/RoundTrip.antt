@@ -161,9 +161,9 @@ state-and-tail edition2 bs n =
     ∙ ap (λ (l : List ℕ). take 200 (drop 5 bs) ++ l) (sym (drop-drop 200 5 bs ∙ behind))
     ∙ take-append-drop 200 (drop 5 bs)
 
-pub save-of-load : (e : Edition) (bs : List ℕ) → isEdition e bs ≡ true → loaded bs .answer ≡ done → form e (loaded bs .session) ≡ bs
+pub form-of-load : (e : Edition) (bs : List ℕ) → isEdition e bs ≡ true → loaded bs .answer ≡ done → form e (loaded bs .session) ≡ bs
 unfolding form sessionIn
-save-of-load e bs h d =
+form-of-load e bs h d =
     let f = seen-of e bs h d in
     rw (f .session, level-byte-of (byteAt bs 1) (f .level), direction-byte-of (byteAt bs 4) (f .direction), state-and-tail e bs (f .long), sym (f .first))
     (five-and-rest bs (omega (arith, f .long, size-least e)))
@@ -177,12 +177,16 @@ old-form-newest bs h d =
     rw (f .session, level-byte-of (byteAt bs 1) (f .level), direction-byte-of (byteAt bs 4) (f .direction), state)
     (ap (λ (l : List ℕ). numberOf newest ∷ (drop 1 l ++ noLast ∷ [])) (five-and-rest bs (omega (arith, f .long))))
 
--- a form of edition 1 is the front of one of edition 2, but for its number
-pub old-from-new : (s : Session) → length (s .state) ≡ 200 → form edition1 s ≡ numberOf edition1 ∷ drop 1 (take (sizeOf edition1) (form edition2 s))
+-- a form of an edition is the front of what a save writes, but for its number
+pub old-from-new : (e : Edition) (s : Session) → length (s .state) ≡ 200
+    → form e s ≡ numberOf e ∷ drop 1 (take (sizeOf e) (form newest s))
 unfolding form
-old-from-new s n =
+old-from-new edition1 s n =
     ap (λ (l : List ℕ). numberOf edition1 ∷ levelByte (s .level) ∷ s .pos ∷ s .begin ∷ directionByte (s .direction) ∷ l)
     (append-nil (s .state) ∙ sym (take-at (s .state) (lastByte (s .last) ∷ []) 200 n))
+old-from-new edition2 s n =
+    let long : length (form newest s) ≤ sizeOf newest = omega (arith, form-size newest s n) in
+    sym (ap (λ (l : List ℕ). numberOf newest ∷ drop 1 l) (take-all (sizeOf newest) (form newest s) long))
 
 -- ---- a session that was loaded
 
@@ -208,11 +212,11 @@ unfolding saving
 loaded-saving bs buf d n = rw (loaded-well bs d, le-ltb (length buf) (sizeOf newest) n) (refl, refl)
 
 -- what was loaded is written back byte for byte
-pub save-of-load-fills : (bs buf : List ℕ) → isEdition newest bs ≡ true → loaded bs .answer ≡ done → sizeOf newest ≤ length buf
+pub save-of-load : (bs buf : List ℕ) → isEdition newest bs ≡ true → loaded bs .answer ≡ done → sizeOf newest ≤ length buf
     → (saving (loaded bs .session) buf .answer ≡ done) × (saving (loaded bs .session) buf .lent ≡ bs ++ drop (sizeOf newest) buf)
-save-of-load-fills bs buf h d n =
+save-of-load bs buf h d n =
     let w = loaded-saving bs buf d n in
-    (w .0, w .1 ∙ ap (λ (l : List ℕ). l ++ drop (sizeOf newest) buf) (save-of-load newest bs h d))
+    (w .0, w .1 ∙ ap (λ (l : List ℕ). l ++ drop (sizeOf newest) buf) (form-of-load newest bs h d))
 
 -- an old form with another number, and FF behind it
 pub old-form-saved : (bs buf : List ℕ) → isEdition edition1 bs ≡ true → loaded bs .answer ≡ done → sizeOf newest ≤ length buf
@@ -228,7 +232,7 @@ pub loads-exactly-the-forms-of : (e : Edition) (bs : List ℕ)
     → ((isEdition e bs ≡ true) × (loaded bs .answer ≡ done))
     ↔ ((s : Session) × (length (s .state) ≡ 200) × (wellFormed (rateOf (s .level)) (seen s) ≡ true) × (form e s ≡ bs))
 loads-exactly-the-forms-of e bs = (
-  λ h. (loaded bs .session, loaded-size bs (h .1), loaded-well bs (h .1), save-of-load e bs (h .0) (h .1)),
+  λ h. (loaded bs .session, loaded-size bs (h .1), loaded-well bs (h .1), form-of-load e bs (h .0) (h .1)),
   λ h. (
     ap (isEdition e) (sym (h .3)) ∙ of-its-edition e (h .0) (h .1),
     ap (λ (b : List ℕ). loaded b .answer) (sym (h .3)) ∙ ap (λ (g : Given). g .answer) (load-of-form e (h .0) (h .1) (h .2)),

@@ -25,6 +25,9 @@ const EDITION_2: u8 = 2;
 
 const SIZE_2: usize = 206;
 
+// How many bytes a save writes.
+pub const SIZE: usize = SIZE_2;
+
 // Where the state stands, and the last operation in edition 2.
 const STATE: usize = 5;
 

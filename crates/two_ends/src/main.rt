@@ -38,7 +38,7 @@ fn receive(session: Session, text: &mut [u8], mac: &[u8]) -> Session {
 
 // What an office does with its session at the end of a day, and at the start of the next.
 fn overnight(session: Session) -> Session {
-    let mut form = [0u8; 206];
+    let mut form = [0u8; saved::SIZE];
     saved::save(session, &mut form);
     let morning = saved::load(&form);
     let answer = morning.answer;
