@@ -61,7 +61,8 @@ class End:
 
     def shown(self, part):
         """Its part of a line."""
-        return (f"{part.edition} {self.went_on} {self.refused} {part.middle} "
+        middle = part.middle if part.middle == "-" else f"{part.middle}:2"
+        return (f"{part.edition} {self.went_on} {self.refused} {middle} "
                 f"{self.answer} {self.session.pos} {self.session.pos_begin} "
                 f"{self.given.hex()}")
 

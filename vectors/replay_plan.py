@@ -10,7 +10,7 @@ sys.dont_write_bytecode = True  # a run leaves no file beside this one
 from strobe import (
     AD, I, M, OPERATIONS, PRF, RATES, RECV_MAC, SEND_MAC, T, fresh)
 
-NAME = b"a plan for two ends, 2713"  # the first number that lacks nothing
+NAME = b"a plan for two ends, 2713"  # with this number it lacks nothing
 LONGEST_MAC = 64  # the limit of one call that receives a MAC
 FIRST, SECOND = 1, 2
 ENDS = {FIRST: "first end", SECOND: "second end"}

@@ -28,8 +28,8 @@ def back_from_old(lines, session):
 
 
 def first_calls(lines, loaded):
-    """After a load of edition 1 `more` has nothing to go on with before an
-    operation is opened."""
+    """With no last operation `more` has nothing to go on with before one is
+    opened. With ad as the last one the first call goes on."""
     for flags, more in ((AD, True), (0x22, True), (0x05, True),
                         (RECV_MAC, True), (KEY, True), (RECV_MAC, False),
                         (M | RECV_CLR, False), (M | RECV_CLR, True)):

@@ -32,6 +32,13 @@ pub struct Trial {
     pub note: Note,
 }
 
+// An end that may have been loaded: in which edition, 0 for none, and what it was answered when it then went on.
+pub struct Morning {
+    pub session: Session,
+    pub edition: u8,
+    pub went_on: Note,
+}
+
 fn not_tried(session: Session) -> Trial {
     Trial {
         session,
@@ -68,18 +75,35 @@ fn last_flags(session: Session) -> Flags {
     }
 }
 
-// After a load of edition 1 more of the operation that was last before the save is tried. No last operation is set, so the answer is NotTheLast; after
-// a received MAC it is CutMac, as for every session. After a load of edition 2 the session could go on, so nothing is tried.
-pub fn overnight(session: Session, bytes: [u8; 400], reload: Reload) -> Trial {
+fn woken(trial: Trial, edition: u8) -> Morning {
+    let session = trial.session;
+    let went_on = trial.note;
+    Morning {
+        session,
+        edition,
+        went_on,
+    }
+}
+
+// More of the operation that was last before the save is tried. No last operation is set, so the answer is NotTheLast; after a received MAC it is CutMac,
+// as for every session.
+fn after_edition_1(session: Session, bytes: [u8; 400]) -> Morning {
+    let loaded = reload::in_edition_1(session);
+    let trial = tried(loaded.session, bytes, last_flags(session), true);
+    woken(trial, loaded.edition)
+}
+
+// The session could go on, so nothing is tried.
+fn after_edition_2(session: Session) -> Morning {
+    let loaded = reload::in_edition_2(session);
+    woken(not_tried(loaded.session), loaded.edition)
+}
+
+pub fn overnight(session: Session, bytes: [u8; 400], reload: Reload) -> Morning {
     match reload {
-        Reload::Nothing => not_tried(session),
-        Reload::Edition1 => tried(
-            reload::in_edition_1(session),
-            bytes,
-            last_flags(session),
-            true,
-        ),
-        Reload::Edition2 => not_tried(reload::in_edition_2(session)),
+        Reload::Nothing => woken(not_tried(session), 0),
+        Reload::Edition1 => after_edition_1(session, bytes),
+        Reload::Edition2 => after_edition_2(session),
     }
 }
 

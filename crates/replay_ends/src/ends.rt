@@ -10,13 +10,21 @@ use strobe::Flags;
 use strobe::Level;
 use strobe::Session;
 
-// An end after an operation: its session and bytes, the operation's answer, and what was tried before it.
+// What an end did before an operation: the edition that it was loaded in, 0 for none, and what it was answered when it then went on, and when it tried a
+// call that is refused.
+pub struct Before {
+    pub edition: u8,
+    pub went_on: Note,
+    pub refused: Note,
+}
+
+// An end after an operation: its session and bytes, the operation's answer, the edition that it was loaded in between two pieces, and what came before.
 pub struct End {
     pub session: Session,
     pub bytes: [u8; 400],
     pub answer: Answer,
-    pub went_on: Note,
-    pub refused: Note,
+    pub edition: u8,
+    pub before: Before,
 }
 
 pub struct Ends {
@@ -33,30 +41,28 @@ impl End {
             session,
             bytes: [0u8; 400],
             answer,
-            went_on: Note::Nothing,
-            refused: Note::Nothing,
+            edition: 0,
+            before: Before {
+                edition: 0,
+                went_on: Note::Nothing,
+                refused: Note::Nothing,
+            },
         }
     }
 
     // The operation on the first of the lent bytes.
-    fn operated(
-        session: Session,
-        lent: [u8; 400],
-        part: Part,
-        went_on: Note,
-        refused: Note,
-    ) -> End {
+    fn operated(session: Session, lent: [u8; 400], part: Part, before: Before) -> End {
         let mut bytes = lent;
         let n = part.len();
-        let out = pieces::operate(session, part, &mut bytes[0..n]);
-        let session = out.session;
-        let answer = out.answer;
+        let worked = pieces::operate(session, part, &mut bytes[0..n]);
+        let session = worked.session;
+        let answer = worked.answer;
         End {
             session,
             bytes,
             answer,
-            went_on,
-            refused,
+            edition: worked.edition,
+            before,
         }
     }
 
@@ -66,9 +72,14 @@ impl End {
         let morning = before::overnight(self.session, lent, reload);
         let attempt = part.attempt;
         let still = before::attempted(morning.session, lent, attempt, part.flags);
-        let went_on = morning.note;
+        let went_on = morning.went_on;
         let refused = still.note;
-        End::operated(still.session, lent, part, went_on, refused)
+        let before = Before {
+            edition: morning.edition,
+            went_on,
+            refused,
+        };
+        End::operated(still.session, lent, part, before)
     }
 }
 

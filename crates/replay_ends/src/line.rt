@@ -2,8 +2,8 @@
 //
 //   its number, the first end's flag byte in hexadecimal, the length
 //   the first end: the edition in which it was loaded, what it was answered when it then went on, and when it tried a call that is refused; after how
-//     many bytes of the operation it was loaded in its middle; the operation's answer, its position and begin position, and its bytes after it in
-//     hexadecimal
+//     many bytes of the operation it was loaded in its middle, and in which edition; the operation's answer, its position and begin position, and its
+//     bytes after it in hexadecimal
 //   the second end: the same
 //
 // A `-` is for what was not done, `changed` for a refused call that changed its bytes, of which there is none. The first
@@ -12,29 +12,29 @@ use crate::before::Note;
 use crate::ends::End;
 use crate::ends::Ends;
 use crate::output;
-use crate::pieces::Middle;
+use crate::plan::Middle;
 use crate::plan::Part;
 use crate::plan::Step;
-use crate::reload::Reload;
 use strobe::Answer;
 
 fn write_answer(answer: Answer) {
     output::write_number(answer.number() as u64);
 }
 
-fn write_edition(reload: Reload) {
-    match reload {
-        Reload::Nothing => output::write_text(b"-"),
-        Reload::Edition1 => output::write_text(b"1"),
-        Reload::Edition2 => output::write_text(b"2"),
+fn write_edition(edition: u8) {
+    if edition == 0 {
+        output::write_text(b"-");
+    } else {
+        output::write_number(edition as u64);
     }
 }
 
-fn write_middle(middle: Middle) {
-    match middle {
-        Middle::Nothing => output::write_text(b"-"),
-        Middle::After(n) => output::write_number(n as u64),
+fn write_middle(middle: Middle, edition: u8) {
+    if let Middle::After(n) = middle {
+        output::write_number(n as u64);
+        output::write_text(b":");
     }
+    write_edition(edition);
 }
 
 fn write_note(note: Note) {
@@ -52,18 +52,18 @@ fn write_lent(bytes: [u8; 400], part: Part) {
 
 // What came before the operation's answer, each with the space before it.
 fn write_before(end: End, part: Part) {
-    let reload = part.reload;
-    let went_on = end.went_on;
-    let refused = end.refused;
+    let before = end.before;
+    let went_on = before.went_on;
+    let refused = before.refused;
     let middle = part.middle;
     output::write_text(b" ");
-    write_edition(reload);
+    write_edition(before.edition);
     output::write_text(b" ");
     write_note(went_on);
     output::write_text(b" ");
     write_note(refused);
     output::write_text(b" ");
-    write_middle(middle);
+    write_middle(middle, end.edition);
 }
 
 fn write_end(end: End, part: Part) {

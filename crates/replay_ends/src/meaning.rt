@@ -9,7 +9,7 @@
 ghost use Prim.Native.Nat.{_<_};
 use crate::before::Attempt;
 use crate::flags;
-use crate::pieces::Middle;
+use crate::plan::Middle;
 use crate::reload::Reload;
 use strobe::Flags;
 
@@ -84,7 +84,7 @@ pub fn reload(opening: bool, byte: u8) -> Reload {
     Reload::Nothing
 }
 
-// In every second operation, after any number of its bytes that a byte can tell. A received MAC can't be cut.
+// In every second operation, after 128 to 255 bytes, counted round in a shorter one. A received MAC can't be cut.
 pub fn middle(flags: Flags, byte: u8, length: usize) -> Middle
     requires { ⌜ length < 400 ⌝ }
 {

@@ -3,10 +3,15 @@ ghost use Prim.Native.Nat.{_<_};
 use crate::before::Attempt;
 use crate::flags;
 use crate::meaning;
-use crate::pieces::Middle;
 use crate::reload::Reload;
 use strobe::Flags;
 use strobe::Session;
+
+// Where an end is saved and loaded again, if it is: after so many bytes of the operation.
+pub enum Middle {
+    Nothing,
+    After(usize),
+}
 
 // What one end does.
 pub struct Part {

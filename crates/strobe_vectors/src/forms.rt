@@ -10,7 +10,7 @@ use strobe::Session;
 
 // A save into a buffer of just the size, and a load of it.
 fn there_and_back(session: Session) -> Session {
-    let mut form = [0u8; 206];
+    let mut form = [0u8; saved::SIZE];
     let answer = saved::save(session, &mut form);
     line::write(Outcome { session, answer }, &form);
     let out = saved::load(&form);
@@ -34,7 +34,7 @@ fn example() {
     back_from_old(told);
 }
 
-// After a load of edition 1 `more` has nothing to go on with before an operation is opened.
+// With no last operation `more` has nothing to go on with before one is opened. With ad as the last one the first call goes on.
 fn first_calls(loaded: Session) -> Session {
     let s = step(loaded, 0x02, true, 3);
     let s = step(s, 0x22, true, 3);
