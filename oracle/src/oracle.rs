@@ -47,8 +47,8 @@ fn direction_byte(is_receiver: Option<bool>) -> u8 {
 
 fn form_of(session: &Strobe) -> rules::Form {
     let parts = session.parts();
-    let mut form = [0; rules::EDITION_2.size];
-    form[0] = rules::EDITION_2.number;
+    let mut form = [0; rules::NEWEST.size];
+    form[0] = rules::NEWEST.number;
     form[1] = level_byte(session);
     form[2] = parts.position as u8;
     form[3] = parts.begin as u8;
@@ -119,7 +119,7 @@ impl Oracle {
     fn save(&mut self, mut lent: Vec<u8>) -> Answer {
         let number = match &self.session {
             None => rules::NOT_A_SESSION,
-            Some(_) if lent.len() < rules::EDITION_2.size => rules::SHORT_BUFFER,
+            Some(_) if lent.len() < rules::NEWEST.size => rules::SHORT_BUFFER,
             Some(session) => {
                 let form = form_of(session);
                 lent[..form.len()].copy_from_slice(&form);

@@ -125,6 +125,7 @@ pub fn is_too_long(flags: u8, length: usize) -> bool {
 }
 
 /// An edition of the saved form: its first byte, and how many there are.
+#[derive(Clone, Copy)]
 pub struct Edition {
     pub number: u8,
     pub size: usize,
@@ -133,10 +134,13 @@ pub struct Edition {
 /// Ends with the state. It is loaded, and no longer saved.
 pub const EDITION_1: Edition = Edition { number: 1, size: 205 };
 
-/// Has the last operation's flag byte behind the state. A save writes it.
+/// Has the last operation's flag byte behind the state.
 pub const EDITION_2: Edition = Edition { number: 2, size: 206 };
 
 pub const EDITIONS: [Edition; 2] = [EDITION_1, EDITION_2];
+
+/// The one that a save writes.
+pub const NEWEST: Edition = EDITION_2;
 
 /// Where both have the state, and where edition 2 has the last operation.
 pub const STATE: Range<usize> = 5..205;
@@ -146,7 +150,7 @@ pub const LAST: usize = 205;
 pub const NO_LAST: u8 = 0xff;
 
 /// What a save writes.
-pub type Form = [u8; EDITION_2.size];
+pub type Form = [u8; NEWEST.size];
 
 /// The same form in this edition.
 pub fn in_edition(edition: &Edition, form: &Form) -> Vec<u8> {

@@ -7,7 +7,7 @@ use crate::draw::Draw;
 use crate::line::Line;
 use crate::pen::Pen;
 use crate::rules::{
-    in_edition, operations, plain, Form, EDITION_1, EDITION_2, MAC_LIMIT, RATCHET, RATCHET_LIMIT, RECV_MAC,
+    in_edition, operations, plain, Form, EDITION_1, MAC_LIMIT, NEWEST, RATCHET, RATCHET_LIMIT, RECV_MAC,
 };
 
 const CASES: usize = 11_500;
@@ -45,17 +45,17 @@ fn call(draw: &mut Draw, pen: &mut Pen, level: u8) {
     operation(draw, pen, flags, more, level);
 }
 
-/// What was saved is loaded later, mostly in edition 2; at times it is damaged, so that all is refused until a good one is loaded.
+/// What was saved is loaded later, mostly in the newest edition; at times it is damaged, so that all is refused until a good one is loaded.
 fn overnight(draw: &mut Draw, pen: &mut Pen, kept: &mut Form) {
     if draw.once_in(2) {
-        let buffer = EDITION_2.size - 2 + draw.below(6);
+        let buffer = NEWEST.size - 2 + draw.below(6);
         let buffer = draw.bytes(buffer);
         if let Some(form) = pen.session().form() {
             *kept = form;
         }
         return pen.write(Line::Save(buffer));
     }
-    let edition = if draw.once_in(4) { EDITION_1 } else { EDITION_2 };
+    let edition = if draw.once_in(4) { EDITION_1 } else { NEWEST };
     let mut form = in_edition(&edition, kept);
     if draw.once_in(3) {
         let at = draw.pick(&[0, 1, 2, 3, 4, 5, edition.size - 1]);

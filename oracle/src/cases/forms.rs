@@ -4,18 +4,15 @@ use super::{begun, Offering, LEVELS};
 use crate::draw::Draw;
 use crate::line::Line;
 use crate::pen::Pen;
-use crate::rules::{in_edition, Edition, Form, EDITIONS, EDITION_1, EDITION_2, NO_LAST, PRF, STATE};
+use crate::rules::{in_edition, Edition, Form, EDITIONS, NEWEST, NO_LAST, PRF, STATE};
 
 /// A few bytes more than a form has.
-const LENGTHS: usize = EDITION_2.size + 5;
-
-/// Their low bytes are those of the right lengths.
-const LONG: [usize; 2] = [EDITION_1.size + 256, EDITION_2.size + 256];
+const LENGTHS: usize = NEWEST.size + 5;
 
 /// Saves into a buffer that is so many bytes too long, and gives the form.
 pub fn save(draw: &mut Draw, pen: &mut Pen, too_long: usize) -> Form {
     let form = pen.session().form().expect("a session");
-    pen.write(Line::Save(draw.bytes(EDITION_2.size + too_long)));
+    pen.write(Line::Save(draw.bytes(NEWEST.size + too_long)));
     form
 }
 
@@ -41,8 +38,8 @@ fn loaded(offering: &mut Offering, level: u8, edition: &Edition, damage: impl Fn
     });
 }
 
-/// Each value of each byte beside the state; one bit of each byte of the state; each length up to a few bytes more. What is too long for edition 1 ends as
-/// edition 2 may, so that only its length is wrong.
+/// Each value of each byte beside the state; one bit of each byte of the state; each length up to a few bytes more, and those whose low byte is right. What
+/// is too long for edition 1 ends as edition 2 may, so that only its length is wrong.
 fn damaged(offering: &mut Offering, level: u8, edition: &Edition) {
     for at in (0..edition.size).filter(|at| !STATE.contains(at)) {
         for value in 0..=255 {
@@ -52,7 +49,7 @@ fn damaged(offering: &mut Offering, level: u8, edition: &Edition) {
     for at in STATE {
         loaded(offering, level, edition, |bytes| bytes[at] ^= 1 << (at % 8));
     }
-    for length in (0..LENGTHS).chain(LONG) {
+    for length in (0..LENGTHS).chain(EDITIONS.map(|edition| edition.size + 256)) {
         loaded(offering, level, edition, |bytes| bytes.resize(length, NO_LAST));
     }
 }

@@ -4,7 +4,7 @@ use super::Offering;
 use crate::draw::Draw;
 use crate::line::Line;
 use crate::pen::Pen;
-use crate::rules::{in_edition, operations, EDITIONS, EDITION_2, META_AD, PAYLOAD_LIMIT, PRF};
+use crate::rules::{in_edition, operations, EDITIONS, META_AD, NEWEST, PAYLOAD_LIMIT, PRF};
 
 /// What a changed character becomes: a digit, or one that is near the digits.
 const CHARACTERS: &[u8] = b"0123456789abcdef/:@AFG`gxz \t\r\0\x80\xff";
@@ -23,12 +23,12 @@ pub fn first_lines(offering: &mut Offering) {
                 pen.operation(draw, flags, more, 3);
                 let any = draw.number() as u8;
                 pen.operation(draw, any, false, 3);
-                let buffer = draw.below(2 * EDITION_2.size);
+                let buffer = draw.below(2 * NEWEST.size);
                 pen.write(Line::Save(draw.bytes(buffer)));
-                pen.write(Line::Load(draw.bytes(EDITION_2.size)));
+                pen.write(Line::Load(draw.bytes(NEWEST.size)));
                 let form = Pen::of(1 + level % 2, draw.bytes(4)).session().form().expect("a session");
-                let edition = &EDITIONS[draw.below(2)];
-                pen.write(Line::Load(in_edition(edition, &form)));
+                let edition = draw.pick(&EDITIONS);
+                pen.write(Line::Load(in_edition(&edition, &form)));
                 pen.operation(draw, META_AD, true, 3);
                 pen.operation(draw, PRF, false, 4);
                 pen.case()
