@@ -124,11 +124,12 @@ loaded bs =
     (cond (isEdition edition1 bs) (loadedWith bs (lastIn edition1 bs))
     (given badSaved blank))
 
--- what a load gives back of a session, by the edition of its form
+-- a session with another last operation
 abbrev pub withLast : Session → Last → Session
 withLast s last =
     record { state = s .state; level = s .level; pos = s .pos; begin = s .begin; direction = s .direction; last = last }
 
+-- what a load gives back of a session, by the edition of its form
 abbrev pub keptBy : Edition → Session → Session
 keptBy edition1 s = withLast s Nothing
 keptBy edition2 s = s

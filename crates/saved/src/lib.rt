@@ -218,7 +218,7 @@ fn write_form(
     buf: &mut [u8],
 )
     requires { ⌜ sizeOf edition2 ≤ length (now buf) ⌝ }
-    ensures { λ _. ⌜ now (buf .exit) ≡ (numberOf edition2 ∷ level ∷ pos ∷ begin ∷ direction ∷ (state ++ last ∷ [])) ++ drop 206 (now (buf .entry)) ⌝ }
+    ensures { λ _. ⌜ now (buf .exit) ≡ (numberOf edition2 ∷ level ∷ pos ∷ begin ∷ direction ∷ (state ++ last ∷ [])) ++ drop (sizeOf edition2) (now (buf .entry)) ⌝ }
 {
     buf[0] = EDITION_2;
     buf[1] = level;
@@ -237,7 +237,7 @@ pub fn save(session: Session, buf: &mut [u8]) -> Answer
     if !session.well_formed() {
         return Answer::NotASession;
     }
-    if buf.len() < SIZE_2 {
+    if buf.len() < SIZE {
         return Answer::ShortBuffer;
     }
     let level = session.level;
