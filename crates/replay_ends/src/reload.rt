@@ -1,6 +1,6 @@
 // A save and a load, in either edition of the saved form. The save's answer is not looked at: after a refused one the form is zeros, the load is
 // refused too and gives a blank, and from there on each answer on the lines is NotASession.
-use strobe::Answer;
+use strobe::Outcome;
 use strobe::Session;
 
 // The edition in which an end is saved and loaded again, if it is.
@@ -16,8 +16,11 @@ pub struct Loaded {
     pub edition: u8,
 }
 
-fn taken(answer: Answer, number: u8) -> u8 {
-    if answer.refuses() { 0 } else { number }
+fn taken(out: Outcome, number: u8) -> Loaded {
+    let session = out.session;
+    let answer = out.answer;
+    let edition = if answer.refuses() { 0 } else { number };
+    Loaded { session, edition }
 }
 
 // What a save writes.
@@ -36,22 +39,10 @@ fn old_form_of(session: Session) -> [u8; saved::SIZE] {
 
 pub fn in_edition_1(session: Session) -> Loaded {
     let form = old_form_of(session);
-    let out = saved::load(&form[0..205]);
-    let session = out.session;
-    let answer = out.answer;
-    Loaded {
-        session,
-        edition: taken(answer, form[0]),
-    }
+    taken(saved::load(&form[0..205]), form[0])
 }
 
 pub fn in_edition_2(session: Session) -> Loaded {
     let form = form_of(session);
-    let out = saved::load(&form);
-    let session = out.session;
-    let answer = out.answer;
-    Loaded {
-        session,
-        edition: taken(answer, form[0]),
-    }
+    taken(saved::load(&form), form[0])
 }
