@@ -1,4 +1,6 @@
 // What the benches count, exported so that a Rust program can call it: here the permutation, and in `session` the rows of the session bench.
+#![tactic(auto)]
+
 mod session;
 
 ghost use Rattle.std.specs.Prelude.{◌≡◌};

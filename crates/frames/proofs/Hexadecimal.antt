@@ -6,8 +6,8 @@ use mathlib.Core.Bool.{Bool, true, false, cond, ◌&&◌}
 use native.Mathlib.Omega.{arith}
 use lib.Dec.{ltb}
 use borrow.Author.Tests.{lt-ltb, ltb-true}
-use Rattle.hex.specs.Digits.{digit_of, value_of}
-use Rattle.hex.proofs.Digits.{value_of_digit, digit_of_value}
+use Rattle.hex_digits.specs.Digits.{digit_of, value_of}
+use Rattle.hex_digits.proofs.Digits.{value_of_digit, digit_of_value}
 use Rattle.laws.proofs.Bools.{and_left, and_right}
 use Rattle.strobe.specs.Every.{Every}
 use Rattle.frames.specs.Hexadecimal.{Read, misshapen, bytes, encode, decode, is_digit, byte_of, ahead}

@@ -7,7 +7,7 @@ use native.Mathlib.Omega.{arith}
 use lib.Dec.{eqb, ltb, leb}
 use lib.ListN.{length, length-append}
 use borrow.Author.Tests.{lt-ltb, ltb-true, ltb-false, lt-leb}
-use Rattle.hex.specs.Digits.{value_of}
+use Rattle.hex_digits.specs.Digits.{value_of}
 use Rattle.strobe.specs.Flags.{flags, operation}
 use Rattle.strobe.specs.declared.session.Session.{Session}
 use Rattle.frames.specs.Hexadecimal.{Read, misshapen, bytes, decode, is_digit, byte_of, ahead}

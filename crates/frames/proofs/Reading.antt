@@ -10,8 +10,8 @@ use lib.Dec.{ltb}
 use lib.ListN.{length, take, drop, get_or, set, length-take, drop_of_length-le}
 use lib.Seq.{drop-cons, take_all, take-suc-set}
 use borrow.Author.Tests.{not-true, lt-ltb, le-ltb, eq-eqb, ne_eqb}
-use Rattle.hex.specs.Digits.{value_of}
-use Rattle.hex.proofs.Digits.{none_before_0}
+use Rattle.hex_digits.specs.Digits.{value_of}
+use Rattle.hex_digits.proofs.Digits.{none_before_0}
 use Rattle.laws.proofs.Bools.{and_left, and_right}
 use Rattle.frames.specs.Inside.{even, begun_line, fitted_line, whole_line, read_all, ends, past, ReadsPairs, Takes}
 use Rattle.frames.specs.Hexadecimal.{byte_of}

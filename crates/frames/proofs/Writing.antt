@@ -6,7 +6,7 @@ use native.Mathlib.Omega.{arith}
 use native.Mathlib.Numerals.{add-one}
 use lib.ListN.{length, take, drop, set, get_or, length-append, length-take, length-drop, length-set, take-append-drop, drop_of_length-le}
 use lib.Seq.{take_at, drop_at, drop-drop, drop-cons, set_split}
-use Rattle.hex.specs.Digits.{digit_of}
+use Rattle.hex_digits.specs.Digits.{digit_of}
 use Rattle.strobe.specs.declared.session.Session.{Session}
 use Rattle.frames.specs.Hexadecimal.{encode}
 use Rattle.frames.specs.Lines.{newline}

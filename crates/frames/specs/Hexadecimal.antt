@@ -1,6 +1,6 @@
 -- Bytes as lower-case hexadecimal digits, two a byte, the upper half first; and back (docs/JOURNAL.md, section 1).
 use Rattle.std.specs.Prelude.{Bool, cond, ◌&&◌, List, [], ◌∷◌, ℕ, ◌+◌, ◌*◌, ◌/◌, ◌%◌, ltb}
-use Rattle.hex.specs.Digits.{digit_of, value_of}
+use Rattle.hex_digits.specs.Digits.{digit_of, value_of}
 
 unfoldable pub encode : List ℕ → List ℕ
 encode [] = []

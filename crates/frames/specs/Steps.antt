@@ -1,7 +1,7 @@
 -- The journal a character at a time, as the code goes through it, and what the public functions promise. That any pieces of an input give what
 -- `journal` says is a theorem.
 use Rattle.std.specs.Prelude.{Bool, true, false, not, cond, ◌&&◌, ◌||◌, List, [], ◌∷◌, ◌++◌, ◌≡◌, ℕ, suc, ◌+◌, ◌*◌, ◌-◌, ◌%◌, eqb, ltb, length, take, drop}
-use Rattle.hex.specs.Digits.{value_of}
+use Rattle.hex_digits.specs.Digits.{value_of}
 use Rattle.strobe.specs.Session.{blank}
 use Rattle.strobe.specs.declared.session.Session.{Session}
 use Rattle.frames.specs.Hexadecimal.{Read, misshapen, bytes, is_digit}

@@ -15,8 +15,8 @@ fn write_hexadecimal(bytes: &[u8], out: &mut [u8], at: usize) -> usize
     let mut i: usize = 0;
     let mut j = at;
     while i < bytes.len() {
-        out[j] = hex::upper_digit(bytes[i]);
-        out[j + 1] = hex::lower_digit(bytes[i]);
+        out[j] = hex_digits::upper_digit(bytes[i]);
+        out[j + 1] = hex_digits::lower_digit(bytes[i]);
         i += 1;
         j += 2;
     }

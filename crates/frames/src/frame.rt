@@ -22,7 +22,7 @@ const LIMIT: usize = 4096;
 const FIRST_LIMIT: usize = 4097;
 
 // What comes of a line.
-#[derive(Drop)]
+#[derive(Clone, Copy)]
 pub struct Called {
     pub session: Session,
     pub answer: u8,

@@ -9,7 +9,7 @@ use crate::{answer, line, walk};
 use strobe::Session;
 
 // Where a journal stands, within a line too.
-#[derive(Drop)]
+#[derive(Clone, Copy)]
 pub struct Journal {
     stage: Stage,
     session: Session,
@@ -17,7 +17,7 @@ pub struct Journal {
     buffer: [u8; LINE_LIMIT],
 }
 
-#[derive(Drop)]
+#[derive(Clone, Copy)]
 pub struct Stepped {
     pub journal: Journal,
     // how much of the input was taken; `finish` counts the newline that it adds

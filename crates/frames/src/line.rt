@@ -7,7 +7,7 @@ ghost use Rattle.frames.specs.Inside.{empty_line, spoilt_line, begun_line, fitte
 pub const LINE_LIMIT: usize = 4098;
 
 // How much of a line is in the buffer.
-#[derive(Drop)]
+#[derive(Clone, Copy)]
 pub struct Line {
     // the bytes so far
     pub count: usize,
@@ -19,7 +19,7 @@ pub struct Line {
     pub good: bool,
 }
 
-#[derive(Drop)]
+#[derive(Clone, Copy)]
 pub struct Taken {
     pub line: Line,
     // where the input goes on
@@ -85,7 +85,7 @@ fn read(line: Line, buffer: &mut [u8], character: u8) -> Line
     requires { (line.count ≤ line_limit) × (length buffer.old ≡ line_limit) }
     ensures { Reads (read (part_of buffer.old line) character) result buffer.new }
 {
-    let value = hex::value(character);
+    let value = hex_digits::value(character);
     if !line.good {
         return line;
     }
@@ -128,8 +128,8 @@ fn read_pairs(buffer: &mut [u8], count: usize, input: &[u8], at: usize) -> usize
     let most = least((input.len() - at) / 2, LINE_LIMIT - count);
     let mut n: usize = 0;
     while n < most {
-        let upper = hex::value(input[at + 2 * n]);
-        let lower = hex::value(input[at + 2 * n + 1]);
+        let upper = hex_digits::value(input[at + 2 * n]);
+        let lower = hex_digits::value(input[at + 2 * n + 1]);
         if upper > 15 {
             return n;
         }

@@ -10,7 +10,7 @@ use crate::line::Line;
 use crate::{answer, frame};
 use strobe::Session;
 
-#[derive(Drop)]
+#[derive(Clone, Copy)]
 pub enum Stage {
     // the first line is to come
     First,
@@ -19,7 +19,7 @@ pub enum Stage {
     Ended,
 }
 
-#[derive(Drop)]
+#[derive(Clone, Copy)]
 pub struct Replied {
     pub stage: Stage,
     pub session: Session,

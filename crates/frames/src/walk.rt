@@ -9,7 +9,7 @@ use crate::reply::Stage;
 use crate::{line, reply};
 use strobe::Session;
 
-#[derive(Drop)]
+#[derive(Clone, Copy)]
 pub struct Walked {
     pub stage: Stage,
     pub session: Session,

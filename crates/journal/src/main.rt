@@ -1,4 +1,6 @@
 // The journal over standard input and output. The library has the work; this file moves bytes, so its contracts say little: it is safe, and it ends.
+#![tactic(auto)]
+
 ghost use Rattle.std.specs.Prelude.{◌≤◌, length};
 ghost use Rattle.io.specs.Counts.{IsPrefixLen};
 ghost use Rattle.frames.specs.Steps.{answer_limit};
@@ -7,7 +9,7 @@ use frames::Journal;
 use libc::{STDIN_FILENO, STDOUT_FILENO};
 
 // The journal behind a read, and whether there is another.
-#[derive(Drop)]
+#[derive(Clone, Copy)]
 struct Run {
     journal: Journal,
     on: bool,

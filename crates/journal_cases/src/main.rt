@@ -1,12 +1,14 @@
 // Each journal that an argument names is read from its file and answered by the library twice: in large pieces with room for many answers, then in
 // pieces of 7 bytes with room for one answer only. The crate's stdout has what an independent program, vectors/journal_cases.py, computed.
+#![tactic(auto)]
+
 ghost use Rattle.io.specs.Counts.{IsPrefixLen};
 
 use frames::Journal;
 use libc::STDOUT_FILENO;
 
 // The journal, and whether its file goes on.
-#[derive(Drop)]
+#[derive(Clone, Copy)]
 struct Run {
     journal: Journal,
     on: bool,

@@ -1,4 +1,6 @@
 // Keccak-f[1600], the permutation of FIPS 202, on the 200 bytes of a state.
+#![tactic(auto)]
+
 mod lanes;
 mod round;
 mod rounds;

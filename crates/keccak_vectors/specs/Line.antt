@@ -1,6 +1,6 @@
 -- A state as a line of text: two hexadecimal digits a byte, and a newline. Assumes nothing.
 use Rattle.std.specs.Prelude.{◌≡◌, List, ℕ, ◌+◌, ◌*◌, ◌/◌, ◌%◌, ◌<◌, get_or}
-use Rattle.hex.specs.Digits.{digit_of}
+use Rattle.hex_digits.specs.Digits.{digit_of}
 
 abbrev pub Bytes : List ℕ → Type 0
 Bytes s = (i : ℕ) → get_or s i 0 < 256

@@ -3,7 +3,7 @@ ghost use Rattle.std.specs.Prelude.{◌≡◌, true, List, ℕ};
 ghost use Rattle.keccak_vectors.specs.Line.{Bytes, Spells};
 
 // What a line holds. Where no state is found, `state` is of no use.
-#[derive(Drop)]
+#[derive(Clone, Copy)]
 pub struct Parsed {
     pub found: bool,
     pub state: [u8; 200],
@@ -18,8 +18,8 @@ pub fn parse(line: &[u8; 401]) -> Parsed
     let mut i = 0;
     while i < 200 {
         let at = 2 * i;
-        let high = hex::value(line[at]);
-        let low = hex::value(line[at + 1]);
+        let high = hex_digits::value(line[at]);
+        let low = hex_digits::value(line[at + 1]);
         if high > 15 || low > 15 {
             return Parsed {
                 found: false,
@@ -43,8 +43,8 @@ pub fn spelled(state: &[u8; 200]) -> [u8; 401]
     let mut i = 0;
     while i < 200 {
         let at = 2 * i;
-        line[at] = hex::upper_digit(state[i]);
-        line[at + 1] = hex::lower_digit(state[i]);
+        line[at] = hex_digits::upper_digit(state[i]);
+        line[at + 1] = hex_digits::lower_digit(state[i]);
         i += 1;
     }
     line

@@ -1,5 +1,7 @@
 // Permutes states: reads them one a line, in hexadecimal, and writes each one permuted in the same
 // form. It stops at the first line that is no state's.
+#![tactic(auto)]
+
 mod line;
 
 use libc::{STDIN_FILENO, STDOUT_FILENO};

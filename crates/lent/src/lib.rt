@@ -1,4 +1,6 @@
 // A session lent by `&mut` and changed in place. Each call is strobe's call by value: the lent session goes in, and the outcome's is stored back.
+#![tactic(auto)]
+
 ghost use Rattle.std.specs.Prelude.{replicate};
 ghost use Rattle.strobe.specs.Flags.{AD, PRF, RATCHET};
 ghost use Rattle.strobe.specs.Session.{Calls};
@@ -12,7 +14,7 @@ mod turn;
 pub use turn::{Turn, take_turn};
 
 // What a call on a lent session gives back: an outcome without the session.
-#[derive(Drop)]
+#[derive(Clone, Copy)]
 pub struct Report {
     pub answer: Answer,
 }

@@ -7,7 +7,7 @@ use crate::reload::Reload;
 use strobe::{Answer, Flags, Last, Session};
 
 // Which call that is refused is tried.
-#[derive(Drop)]
+#[derive(Clone, Copy)]
 pub enum Attempt {
     Nothing,
     KeyFlag,
@@ -18,7 +18,7 @@ pub enum Attempt {
 }
 
 // What a call that is refused was answered, if there was one, or that it changed its bytes.
-#[derive(Drop)]
+#[derive(Clone, Copy)]
 pub enum Note {
     Nothing,
     Answered(Answer),
@@ -26,14 +26,14 @@ pub enum Note {
 }
 
 // The operation goes on with the session.
-#[derive(Drop)]
+#[derive(Clone, Copy)]
 pub struct Trial {
     pub session: Session,
     pub note: Note,
 }
 
 // An end that may have been loaded: in which edition, 0 for none, and what it was answered when it then went on.
-#[derive(Drop)]
+#[derive(Clone, Copy)]
 pub struct Morning {
     pub session: Session,
     pub edition: u8,

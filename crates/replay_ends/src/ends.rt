@@ -6,7 +6,7 @@ use strobe::{Answer, Flags, Level, Session};
 
 // What an end did before an operation: the edition that it was loaded in, 0 for none, and what it was answered when it then went on, and when it tried a
 // call that is refused.
-#[derive(Drop)]
+#[derive(Clone, Copy)]
 pub struct Before {
     pub edition: u8,
     pub went_on: Note,
@@ -14,7 +14,7 @@ pub struct Before {
 }
 
 // An end after an operation: its session and bytes, the operation's answer, the edition that it was loaded in between two pieces, and what came before.
-#[derive(Drop)]
+#[derive(Clone, Copy)]
 pub struct End {
     pub session: Session,
     pub bytes: [u8; 400],
@@ -23,7 +23,7 @@ pub struct End {
     pub before: Before,
 }
 
-#[derive(Drop)]
+#[derive(Clone, Copy)]
 pub struct Ends {
     pub first: End,
     pub second: End,

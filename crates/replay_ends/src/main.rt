@@ -1,6 +1,8 @@
 // Two ends of one channel do 200 operations at each level, each in its own cuts, with saves and loads between the operations and between the cuts, and
 // with refused calls. What both have after each operation is written. The crate's stdout has what an independent program, vectors/replay_ends.py,
 // computed for the same operations done whole.
+#![tactic(auto)]
+
 mod before;
 mod ends;
 mod flags;
@@ -15,7 +17,7 @@ use ends::Ends;
 use strobe::{Level, Session};
 
 // The plan's session and the two ends.
-#[derive(Drop)]
+#[derive(Clone, Copy)]
 struct Game {
     plan: Session,
     ends: Ends,

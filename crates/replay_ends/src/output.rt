@@ -13,7 +13,7 @@ pub fn write_hex(bytes: &[u8]) {
     let mut i = 0;
     while i < bytes.len() {
         let byte = bytes[i];
-        write_text(&[hex::upper_digit(byte), hex::lower_digit(byte)]);
+        write_text(&[hex_digits::upper_digit(byte), hex_digits::lower_digit(byte)]);
         i += 1;
     }
 }

@@ -6,7 +6,7 @@ use crate::reload;
 use strobe::{Answer, Outcome, Session};
 
 // The session behind it, its answer, and the edition that was loaded in its middle, 0 for none.
-#[derive(Drop)]
+#[derive(Clone, Copy)]
 pub struct Worked {
     pub session: Session,
     pub answer: Answer,

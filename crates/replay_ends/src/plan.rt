@@ -7,14 +7,14 @@ use crate::{flags, meaning};
 use strobe::{Flags, Session};
 
 // Where an end is saved and loaded again, if it is: after so many bytes of the operation.
-#[derive(Drop)]
+#[derive(Clone, Copy)]
 pub enum Middle {
     Nothing,
     After(usize),
 }
 
 // What one end does.
-#[derive(Drop)]
+#[derive(Clone, Copy)]
 pub struct Part {
     pub flags: Flags,
     pub more: bool,
@@ -35,7 +35,7 @@ impl Part {
 }
 
 // What both do, the data, and the plan's session behind them.
-#[derive(Drop)]
+#[derive(Clone, Copy)]
 pub struct Step {
     pub first: Part,
     pub second: Part,

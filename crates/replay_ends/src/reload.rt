@@ -3,7 +3,7 @@
 use strobe::{Outcome, Session};
 
 // The edition in which an end is saved and loaded again, if it is.
-#[derive(Drop)]
+#[derive(Clone, Copy)]
 pub enum Reload {
     Nothing,
     Edition1,
@@ -11,7 +11,7 @@ pub enum Reload {
 }
 
 // What a load gave, and the number in front of the bytes that it took; 0 where it was refused.
-#[derive(Drop)]
+#[derive(Clone, Copy)]
 pub struct Loaded {
     pub session: Session,
     pub edition: u8,

@@ -1,4 +1,6 @@
 // A session as 206 bytes, and back: the saved form (docs/FORMATS.md). A load takes the 205 bytes of edition 1 too. A form holds the secret state.
+#![tactic(auto)]
+
 ghost use Rattle.std.specs.Prelude.{◌≡◌, ◌≤◌, length, take, drop, [], ◌∷◌, ◌++◌};
 ghost use Rattle.strobe.specs.Answer.{bad_saved};
 ghost use Rattle.strobe.specs.Session.{given, blank, Is};
@@ -97,7 +99,7 @@ fn is_edition(bytes: &[u8], number: u8, size: usize) -> bool
 }
 
 // The four bytes after the edition.
-#[derive(Drop)]
+#[derive(Clone, Copy)]
 struct Head {
     level: u8,
     pos: u8,

@@ -4,7 +4,7 @@ ghost use Rattle.strobe.specs.Strobe.{directed, disagrees, mixed};
 
 use crate::flags::Flags;
 
-#[derive(Drop)]
+#[derive(Clone, Copy)]
 pub enum Direction {
     Neither,
     Sender,

@@ -8,14 +8,14 @@ ghost use Rattle.strobe.specs.Session.{sponge};
 use crate::parts;
 
 // The position and the begin position.
-#[derive(Drop)]
+#[derive(Clone, Copy)]
 pub struct Positions {
     pub pos: usize,
     pub begin: usize,
 }
 
 // Whether bytes were the state's, and the positions behind them.
-#[derive(Drop)]
+#[derive(Clone, Copy)]
 pub struct Checked {
     pub same: bool,
     pub places: Positions,

@@ -4,7 +4,7 @@ ghost use Rattle.strobe.specs.Strobe.{known_last, is_last};
 
 use crate::flags::Flags;
 
-#[derive(Drop)]
+#[derive(Clone, Copy)]
 pub enum Last {
     Nothing,
     Op(Flags),

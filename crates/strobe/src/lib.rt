@@ -1,4 +1,6 @@
 // STROBE v1.0.2 over Keccak-f[1600]: sessions by value. Every public function answers every input, by number where strobe-rs would panic.
+#![tactic(auto)]
+
 mod answer;
 mod call;
 mod direction;

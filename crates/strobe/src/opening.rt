@@ -11,7 +11,7 @@ use crate::flags::Flags;
 use crate::last::Last;
 
 // What a session is beside its state and level.
-#[derive(Drop)]
+#[derive(Clone, Copy)]
 pub struct Thread {
     pub places: Positions,
     pub direction: Direction,

@@ -2,7 +2,7 @@
 use crate::data;
 use strobe::Session;
 
-#[derive(Drop)]
+#[derive(Clone, Copy)]
 pub enum Edition {
     One,
     Two,

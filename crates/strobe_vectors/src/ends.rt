@@ -3,7 +3,7 @@ use crate::named::{call, step};
 use crate::{data, line};
 use strobe::{Flags, Session};
 
-#[derive(Drop)]
+#[derive(Clone, Copy)]
 struct Ends {
     sender: Session,
     receiver: Session,

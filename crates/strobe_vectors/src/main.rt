@@ -1,5 +1,7 @@
 // Runs STROBE sessions and writes what each call leaves. The crate's stdout has what an independent
 // program, vectors/strobe_vectors.py, computed for the same calls.
+#![tactic(auto)]
+
 mod data;
 mod editions;
 mod ends;

@@ -6,7 +6,7 @@ pub fn write_text(text: &[u8]) {
 }
 
 pub fn digits(byte: u8) -> [u8; 2] {
-    [hex::upper_digit(byte), hex::lower_digit(byte)]
+    [hex_digits::upper_digit(byte), hex_digits::lower_digit(byte)]
 }
 
 pub fn write_hex(bytes: &[u8]) {

@@ -4,7 +4,7 @@ use crate::{editions, output, refusals};
 use strobe::{Answer, Flags, Last, Session};
 
 // What is tried with each number.
-#[derive(Drop)]
+#[derive(Clone, Copy)]
 enum Trial {
     // a load of the form with this value of the byte at a place
     Value(Edition, u8),
@@ -16,7 +16,7 @@ enum Trial {
 
 // The answer of a trial, and two numbers more: of a load the position and the last operation, as a form has it; of a save what is kept of the buffer,
 // and its byte where the last operation stands.
-#[derive(Drop)]
+#[derive(Clone, Copy)]
 struct Case {
     answer: Answer,
     number: u8,

@@ -6,7 +6,7 @@ use strobe::{Flags, Level, Outcome, Session};
 const EVENT: [u8; 9] = *b"north won";
 
 // What a turn leaves: its result, and its three buffers.
-#[derive(Drop)]
+#[derive(Clone, Copy)]
 struct Left {
     turn: Turn,
     buf: [u8; 70],
@@ -15,7 +15,7 @@ struct Left {
 }
 
 // How a turn is taken: the operation's flag byte and `more`, its bytes, the ratchet's count, the bytes to save into.
-#[derive(Drop)]
+#[derive(Clone, Copy)]
 struct Way {
     byte: u8,
     more: bool,

@@ -18,8 +18,8 @@ pub fn read(text: &[u8], bytes: &mut [u8; BYTES_LIMIT], at: usize) -> usize
     }
     let mut i: usize = 0;
     while i < count {
-        let upper = hex::value(text[2 * i]);
-        let lower = hex::value(text[2 * i + 1]);
+        let upper = hex_digits::value(text[2 * i]);
+        let lower = hex_digits::value(text[2 * i + 1]);
         if upper > 15 {
             return 0;
         }
@@ -33,7 +33,7 @@ pub fn read(text: &[u8], bytes: &mut [u8; BYTES_LIMIT], at: usize) -> usize
 }
 
 pub fn of(byte: u8) -> [u8; 2] {
-    [hex::upper_digit(byte), hex::lower_digit(byte)]
+    [hex_digits::upper_digit(byte), hex_digits::lower_digit(byte)]
 }
 
 // The digits of the bytes, from out's index `at` on. Gives the index behind them.
@@ -44,8 +44,8 @@ pub fn write(bytes: &[u8], out: &mut [u8; OUT_SIZE], at: usize) -> usize
     let mut i: usize = 0;
     let mut j = at;
     while i < bytes.len() {
-        out[j] = hex::upper_digit(bytes[i]);
-        out[j + 1] = hex::lower_digit(bytes[i]);
+        out[j] = hex_digits::upper_digit(bytes[i]);
+        out[j + 1] = hex_digits::lower_digit(bytes[i]);
         i += 1;
         j += 2;
     }

@@ -6,7 +6,7 @@ use crate::bounds::BYTES_LIMIT;
 use crate::digits;
 use strobe::{Flags, Operation};
 
-#[derive(Drop)]
+#[derive(Clone, Copy)]
 pub enum Asked {
     // the line is out of shape
     Nothing,
@@ -21,7 +21,7 @@ pub enum Asked {
 }
 
 // The lent buffer begins with byte 2 of the line's bytes.
-#[derive(Drop)]
+#[derive(Clone, Copy)]
 pub struct Frame {
     pub asked: Asked,
     // where it ends

@@ -4,7 +4,7 @@ ghost use Rattle.trace.specs.Bounds.{line_limit};
 
 use crate::bounds::LINE_LIMIT;
 
-#[derive(Drop)]
+#[derive(Clone, Copy)]
 pub struct Taken {
     // the characters of the line so far
     pub count: usize,

@@ -1,4 +1,6 @@
 // Cases on standard input, a line for each of their lines on standard output. This file moves the bytes.
+#![tactic(auto)]
+
 mod bounds;
 mod digits;
 mod frame;
@@ -16,7 +18,7 @@ use libc::{STDIN_FILENO, STDOUT_FILENO};
 use reply::Place;
 
 // Where a case stands, and how much of the line that is coming is in its buffer.
-#[derive(Drop)]
+#[derive(Clone, Copy)]
 struct Run {
     place: Place,
     count: usize,

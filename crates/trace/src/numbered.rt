@@ -5,7 +5,7 @@ use strobe::{Flags, Outcome, Session};
 // The answer to a line that is out of shape.
 const BAD_LINE: u8 = 7;
 
-#[derive(Drop)]
+#[derive(Clone, Copy)]
 pub struct Called {
     pub session: Session,
     pub answer: u8,

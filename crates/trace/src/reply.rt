@@ -9,14 +9,14 @@ use crate::{frame, named, numbered, record};
 use strobe::Session;
 
 // Where a case stands.
-#[derive(Drop)]
+#[derive(Clone, Copy)]
 pub struct Place {
     session: Session,
     // whether its first line is to come
     first: bool,
 }
 
-#[derive(Drop)]
+#[derive(Clone, Copy)]
 pub struct Replied {
     pub place: Place,
     // the index behind the reply
@@ -54,7 +54,7 @@ fn asks(first: bool, text: &[u8], bytes: &mut [u8; BYTES_LIMIT]) -> Frame
 }
 
 // How a call is made: both ways from the same session and the same bytes.
-#[derive(Drop)]
+#[derive(Clone, Copy)]
 enum Way {
     Number,
     Name,

@@ -1,5 +1,7 @@
 // Two offices share a key. One sends an encrypted result with a MAC and saves its session overnight, and both draw the same dice. The example of
 // docs/USING.md.
+#![tactic(auto)]
+
 use libc::STDOUT_FILENO;
 use strobe::{Answer, Level, Session};
 

@@ -7,7 +7,7 @@ use lib.ListN.{length, take}
 use lib.Seq.{length-take-le}
 use borrow.Author.Rules.{rules}
 use borrow.Author.Tests.{not-true, not_false}
-use Rattle.hex.specs.Digits.{value_of}
+use Rattle.hex_digits.specs.Digits.{value_of}
 use Rattle.frames.specs.Inside.{even}
 use Rattle.frames.proofs.Reading.{bad_stays, no_digit_spoils, upper_waits, full_spoils, byte_grows, stored_behind}
 use Rattle.frames.proofs.line.read.Statement.{statement}

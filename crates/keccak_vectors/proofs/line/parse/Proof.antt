@@ -9,8 +9,8 @@ use borrow.Author.Count.{below_none, below_more}
 use borrow.Author.Tests.{ltb-true, ltb-false, eqb-true, eq-eqb}
 use lib.ListN.{length, get_or, set}
 use lib.Seq.{get_or-set_same, get_or-set_other}
-use Rattle.hex.specs.Digits.{digit_of, value_of}
-use Rattle.hex.proofs.Digits.{value_of_digit, digit_of_value}
+use Rattle.hex_digits.specs.Digits.{digit_of, value_of}
+use Rattle.hex_digits.proofs.Digits.{value_of_digit, digit_of_value}
 use Rattle.keccak_vectors.specs.Line.{SpellsAt}
 use Rattle.keccak_vectors.proofs.line.parse.Statement.{statement}
 use Rattle.keccak_vectors.proofs.line.parse.Tie as tie

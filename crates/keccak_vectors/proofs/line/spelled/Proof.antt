@@ -7,7 +7,7 @@ use borrow.Author.Rules.{rules}
 use borrow.Author.Count.{below_none, below_more}
 use lib.ListN.{length, get_or, set, length-set}
 use lib.Seq.{get_or-set_same, get_or-set_other}
-use Rattle.hex.specs.Digits.{digit_of}
+use Rattle.hex_digits.specs.Digits.{digit_of}
 use Rattle.keccak_vectors.specs.Line.{SpellsAt}
 use Rattle.keccak_vectors.proofs.line.spelled.Statement.{statement}
 use Rattle.keccak_vectors.proofs.line.spelled.Tie as tie

@@ -1,0 +1,37 @@
+// Lower-case hexadecimal digits: the two of a byte, and the number of one.
+#![tactic(auto)]
+
+ghost use Rattle.std.specs.Prelude.{◌≡◌, ◌/◌, ◌%◌, ◌<◌};
+ghost use Rattle.hex_digits.specs.Digits.{digit_of, value_of};
+
+// The digit of a number below 16.
+fn digit(n: u8) -> u8
+    requires { n < 16 }
+    ensures { result ≡ digit_of n }
+{
+    if n < 10 { b'0' + n } else { b'a' + (n - 10) }
+}
+
+// These two ask nothing of their callers: the halves of a byte are below 16.
+pub fn upper_digit(byte: u8) -> u8
+    ensures { result ≡ digit_of (byte / 16) }
+{
+    digit(byte / 16)
+}
+
+pub fn lower_digit(byte: u8) -> u8
+    ensures { result ≡ digit_of (byte % 16) }
+{
+    digit(byte % 16)
+}
+
+// The number that a digit stands for, or 16 where the byte is no digit.
+pub fn value(byte: u8) -> u8
+    ensures { result ≡ value_of byte }
+{
+    match byte {
+        b'0'..=b'9' => byte - b'0',
+        b'a'..=b'f' => byte - b'a' + 10,
+        _ => 16,
+    }
+}

@@ -1,0 +1,42 @@
+use Prim.Native.Nat.{◌+◌, ◌-◌}
+use mathlib.Core.Path.{refl}
+use native.Mathlib.Omega.{arith}
+use borrow.Author.Rules.{rules}
+use Rattle.strobe.specs.Flags.{copying}
+use Rattle.strobe.specs.Loops.{at}
+use Rattle.strobe.specs.Session.{sponge}
+use Rattle.strobe.proofs.Loops.{start, stop, closes, keeps, passes}
+use Rattle.strobe.proofs.duplex.copy_state.Goals as goal
+
+pub loop-i-init : goal.loop-i-init
+loop-i-init c = start _ _ _ _ (search rules)
+
+pub loop-i-preserved-then-pos-rate : goal.loop-i-preserved-then-pos-rate
+loop-i-preserved-then-pos-rate c =
+    let l = c.loop-i in
+    let a = c.args in
+    let n = c.least-size.result in
+    let s = c.copy_state in
+    let sp = sponge a.rate in
+    let k = l.i + n - l.i in
+    passes sp copying _ a.buf-1.now l.st l.pos l.begin l.buf-1 l.i n k (omega arith) l.invariant (omega arith) (omega arith) (omega arith)
+    s.new.0 s.ensures.state _ (closes sp (at s.new.0 (l.pos + n) l.begin) _ _ _ (search rules) c.run_f.ensures refl refl)
+    _ s.ensures.lent _ refl
+
+pub loop-i-preserved : goal.loop-i-preserved
+loop-i-preserved c =
+    let l = c.loop-i in
+    let a = c.args in
+    let n = c.least-size.result in
+    let s = c.copy_state in
+    let sp = sponge a.rate in
+    let k = l.i + n - l.i in
+    passes sp copying _ a.buf-1.now l.st l.pos l.begin l.buf-1 l.i n k (omega arith) l.invariant (omega arith) (omega arith) (omega arith)
+    s.new.0 s.ensures.state _ (keeps sp (at s.new.0 (l.pos + n) l.begin) _ _ _ c.if-pos-rate.false refl refl refl)
+    _ s.ensures.lent _ refl
+
+pub shape_of-buf : goal.shape_of-buf
+shape_of-buf c = c.loop-i.invariant.long
+
+pub returns : goal.returns
+returns c = let e = stop _ _ _ _ _ _ _ c.loop-i.invariant c.loop-i-test.false in record { fed = e.0; lent = e.1 }

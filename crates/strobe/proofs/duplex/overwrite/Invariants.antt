@@ -1,0 +1,14 @@
+-- `overwrite`, block by block. The invariant `Going`: what is done and what is left is the whole. Assumes nothing.
+use Prim.Native.Nat.{◌-◌}
+use lib.ListN.{length}
+use Rattle.strobe.specs.Flags.{overwriting}
+use Rattle.strobe.specs.Loops.{at}
+use Rattle.strobe.specs.Session.{sponge}
+use Rattle.strobe.proofs.Loops.{Going}
+use Rattle.strobe.proofs.duplex.overwrite.Given as goal
+
+abbrev pub invariant-loop-i : goal.invariant-loop-i
+invariant-loop-i l = Going (sponge l.rate) overwriting (at l.initial.st l.initial.pos l.initial.begin) l.bytes (at l.st l.pos l.begin) l.bytes l.i
+
+abbrev pub decreases-loop-i : goal.decreases-loop-i
+decreases-loop-i l = length l.bytes - l.i

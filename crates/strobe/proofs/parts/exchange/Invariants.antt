@@ -1,0 +1,12 @@
+-- `exchange` within a block. The invariant `Within`: what is done and what is left is the whole. Assumes nothing.
+use Prim.Native.Nat.{◌-◌}
+use lib.ListN.{length}
+use Rattle.strobe.specs.Flags.{deciphering}
+use Rattle.strobe.proofs.Loops.{Within}
+use Rattle.strobe.proofs.parts.exchange.Given as goal
+
+abbrev pub invariant-loop-j : goal.invariant-loop-j
+invariant-loop-j l = Within deciphering l.initial.st l.pos l.initial.buf l.st l.buf l.j
+
+abbrev pub decreases-loop-j : goal.decreases-loop-j
+decreases-loop-j l = length l.initial.buf - l.j
