@@ -7,7 +7,7 @@ use native.Mathlib.Omega.{arith}
 use lib.Dec.{eqb, leb}
 use lib.ListN.{length, take, drop, set, get_or, replicate, replicate-append-replicate}
 use lib.Seq.{length-take-le, take-add, take_at, drop_at, take-suc-set, drop-append-le, slice_empty, slice-cons, length-slice}
-use borrow.Author.Tests.{not-true, not_false, eq-eqb, ne_eqb, le-leb, lt-leb}
+use borrow.Author.Tests.{not-true, not-false, eq-eqb, ne_eqb, le-leb, lt-leb}
 use borrow.Rule.Slice.PartMut.{put_mid, post_of, mid_len, same_len_mid}
 use Rattle.strobe.specs.Answer.{number, done, bad_line}
 use Rattle.strobe.specs.Flags.{M, RATCHET, META_RATCHET, flags, has, operation}
@@ -89,7 +89,7 @@ short_bytes_refused s (f ∷ more ∷ bs) h = absurd (omega arith)
 
 module _ (s : Session) (b : List ℕ) (l : Line) {t : Bool} (tested : t ≡ whole_line l) (passed : not t ≡ false) (long : l.count ≤ length b) where
   reads_bytes : read_of (part_of b l) ≡ bytes (take l.count b)
-  reads_bytes = rw (sym tested ∙ not_false t passed)
+  reads_bytes = rw (sym tested ∙ not-false t passed)
 
   -- a first line
 

@@ -4,7 +4,7 @@ use mathlib.Core.Path.{◌≡◌, refl}
 use mathlib.Core.List.{List, [], ◌∷◌}
 use mathlib.Core.Bool.{Bool, true, false, cond, ◌||◌}
 use lib.Dec.{eqb}
-use borrow.Author.Tests.{eqb-true, eqb-false, not_false}
+use borrow.Author.Tests.{eqb-true, eqb-false, not-false}
 use Rattle.strobe.specs.Answer.{done, mac_unequal, refuses}
 use Rattle.replay.specs.Each.{Each}
 use Rattle.replay.specs.History.{Entry, struck, Joined, begun, carried_on, joined}
@@ -24,7 +24,7 @@ struck-done (e ∷ es) n = go (refuses e.answer) refl (struck-done es n.1)
 
     go : (t : Bool) → refuses e.answer ≡ t → CallsDone (struck es) → CallsDone (cond t (struck es) (e ∷ struck es))
     go true h rest = rest
-    go false h rest = (zeroed (eqb e.answer done) refl (not_false _ h), rest)
+    go false h rest = (zeroed (eqb e.answer done) refl (not-false _ h), rest)
 
 -- ---- joining
 

@@ -4,7 +4,7 @@ use mathlib.Core.Path.{◌≡◌, refl, sym, ap, ap₂, ◌∙◌, subst}
 use mathlib.Core.List.{List, [], ◌∷◌, ◌++◌}
 use mathlib.Core.Bool.{Bool, true, false, not, cond, ◌&&◌}
 use lib.ListN.{length}
-use borrow.Author.Tests.{eqb-true, not_false}
+use borrow.Author.Tests.{eqb-true, not-false}
 use Rattle.strobe.proofs.Accepted.{Passed, passed_of, refusal-refuses, call-done}
 use Rattle.strobe.proofs.Calls.{verdict-done}
 use Rattle.strobe.proofs.Data.{after_append, out_append, out-kept}
@@ -71,7 +71,7 @@ module _ (sp : Sponge) where
       Usable sp w.strobe → Under s₀ (carried_on o (entry (record { flags = f; more = true; bytes = bs }) w)) w.strobe
   unfolding opened
   under_more s₀ o s f bs u p =
-      let same_flags : f ≡ o.flags = u.last f (not_false (is_last s.last f) p.same_last) in
+      let same_flags : f ≡ o.flags = u.last f (not-false (is_last s.last f) p.same_last) in
       subst
       (λ (g : Flags). is_recv_mac (operation g) ≡ false → Usable sp (worked sp s (operation g) bs).strobe
       → Under s₀ (carried_on o (entry (record { flags = g; more = true; bytes = bs }) (worked sp s (operation g) bs))) (worked sp s (operation g) bs).strobe)

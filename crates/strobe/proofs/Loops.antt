@@ -74,6 +74,7 @@ module _ (sp : Sponge) (r : Rule) where
   pub run : (st : List ℕ) (pos begin : ℕ) (bs : List ℕ) → 0 < length bs → pos + length bs ≤ sp.rate
       → after sp r (at st pos begin) bs ≡ close_if_full sp (at (part r st pos bs) (pos + length bs) begin)
   unfolding after part step
+  run st pos begin [] z h = elim z [ ]
   run st pos begin (b ∷ []) z h = refl
   run st pos begin (b ∷ c ∷ bs) z h =
       rw (not_full_kept sp (placed r (at st pos begin) b) (λ e. omega arith))

@@ -5,7 +5,7 @@ use mathlib.Core.Path.{◌≡◌, refl, ap, ◌∙◌}
 use mathlib.Core.List.{List, [], ◌∷◌}
 use mathlib.Core.Bool.{Bool, true, false, not, cond, ◌&&◌}
 use lib.ListN.{length}
-use borrow.Author.Tests.{not_false}
+use borrow.Author.Tests.{not-false}
 use native.Mathlib.Omega.{arith}
 use Rattle.strobe.specs.Answer.{not_a_session}
 use Rattle.strobe.specs.Duplex.{Sponge, met, same}
@@ -70,7 +70,7 @@ blank_stays (c ∷ cs) = rw (blank-refused c.flags c.more c.bytes) (blank_stays 
 
 module _ (sp : Sponge) where
   refused-same : (s : Strobe) (c : Call) → accepts sp s c ≡ false → (effect sp s c).strobe ≡ s
-  refused-same s c e = (refused_unchanged sp s c.flags c.more c.bytes (not_false _ e)).0
+  refused-same s c e = (refused_unchanged sp s c.flags c.more c.bytes (not-false _ e)).0
 
   pub refused-ran : (s : Strobe) (c : Call) (cs : List Call) → accepts sp s c ≡ false → ran sp s (c ∷ cs) ≡ ran sp s cs
   unfolding ran

@@ -73,6 +73,7 @@ impl Flags {
     }
 
     // The operation that the byte calls for.
+    #[tactic(auto, unfolding(crate::specs::Flags::operation, crate::specs::Flags::operation_of))]
     pub fn operation(self) -> Operation
         ensures { result ≡ operation self }
     {

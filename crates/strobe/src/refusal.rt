@@ -25,6 +25,7 @@ impl Session {
     }
 
     // Done, or the refusal of a call with n bytes.
+    #[tactic(auto, unfolding(crate::specs::Strobe::refusal))]
     pub(crate) fn tested(self, flags: Flags, more: bool, n: usize) -> Answer
         ensures { number result ≡ refusal (rate_of self.level) (seen self) flags more n }
     {

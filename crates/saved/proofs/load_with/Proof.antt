@@ -4,7 +4,7 @@ use mathlib.Core.Path.{◌≡◌, refl, sym, ◌∙◌}
 use mathlib.Core.Bool.{Bool}
 use mathlib.Core.List.{List}
 use borrow.Author.Rules.{rules}
-use borrow.Author.Tests.{not-true, not_false}
+use borrow.Author.Tests.{not-true, not-false}
 use Rattle.saved.specs.Head.{head_in}
 use Rattle.saved.specs.Saved.{fits, session_in}
 use Rattle.saved.specs.declared.Head.{Head}
@@ -29,7 +29,7 @@ returns-2 c =
     let t = c.before.before.before.before.before.before in
     let head = t.before.before.head_in.ensures in
     let a = t.before.before.before.before.args in
-    rw (fitting_loaded a.form.now a.last (fits_told a.form.now a.last _ _ head t.before.fits2.ensures ∙ not_false _ t.if1.false))
+    rw (fitting_loaded a.form.now a.last (fits_told a.form.now a.last _ _ head t.before.fits2.ensures ∙ not-false _ t.if1.false))
     (record { answer = refl; session = rw (c.before.before.before.before.before.state-in.ensures, c.before.before.before.before.level-of.ensures, c.before.direction-of.ensures, c.last_of.ensures, head) })
 
 pub load-with-spec : {M : Type 1} → statement M

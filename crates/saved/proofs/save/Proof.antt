@@ -2,7 +2,7 @@
 use mathlib.Core.Path.{sym, ◌∙◌}
 use native.Mathlib.Omega.{arith}
 use borrow.Author.Rules.{rules}
-use borrow.Author.Tests.{not-true, not_false}
+use borrow.Author.Tests.{not-true, not-false}
 use Rattle.strobe.proofs.Calls.{rate_small, well_ordered}
 use Rattle.saved.specs.Saved.{form}
 use Rattle.saved.proofs.Forms.{saves_no_session, saves_short, saves_done}
@@ -13,18 +13,18 @@ returns : tie.Need-returns
 returns c = saves_no_session c.before.before.before.args.session _ (sym c.before.well-formed-2.ensures ∙ not-true _ c.if1.true)
 
 returns-2 : tie.Need-returns-2
-returns-2 c = saves_short c.before.before.before.before.args.session _ (sym c.before.before.well-formed-2.ensures ∙ not_false _ c.before.if1.false) c.if2.true
+returns-2 c = saves_short c.before.before.before.before.args.session _ (sym c.before.before.well-formed-2.ensures ∙ not-false _ c.before.if1.false) c.if2.true
 
 cast-write-form : tie.Need-overflow-cast-write-form
 cast-write-form c =
     let s = c.before.before.before.before.before.before.before.args.session in
-    let h = well_ordered _ _ (sym c.before.before.before.before.before.well-formed-2.ensures ∙ not_false _ c.before.before.before.before.if1.false) in
+    let h = well_ordered _ _ (sym c.before.before.before.before.before.well-formed-2.ensures ∙ not-false _ c.before.before.before.before.if1.false) in
     omega (arith, h.below, rate_small s.level)
 
 cast-write-form-2 : tie.Need-overflow-cast-write-form-2
 cast-write-form-2 c =
     let s = c.before.before.before.before.before.before.before.before.args.session in
-    let h = well_ordered _ _ (sym c.before.before.before.before.before.before.well-formed-2.ensures ∙ not_false _ c.before.before.before.before.before.if1.false) in
+    let h = well_ordered _ _ (sym c.before.before.before.before.before.before.well-formed-2.ensures ∙ not-false _ c.before.before.before.before.before.if1.false) in
     omega (arith, h.below, h.begun, rate_small s.level)
 
 returns-3 : tie.Need-returns-3
@@ -35,7 +35,7 @@ returns-3 c =
     let first = last.before.before.before.before in
     let tested = first.before.before in
     let t = tested.before in
-    let said = saves_done t.before.before.before.args.session _ (sym t.before.well-formed-2.ensures ∙ not_false _ t.if1.false) tested.if2.false in
+    let said = saves_done t.before.before.before.args.session _ (sym t.before.well-formed-2.ensures ∙ not-false _ t.if1.false) tested.if2.false in
     record {
       answer = said.answer;
       lent = rw (first.level-byte.ensures, last.before.direction-byte.ensures, last.last_byte.ensures) at c.before.before.write-form.ensures ∙ said.lent;

@@ -4,7 +4,7 @@ use mathlib.Core.List.{[], ◌∷◌}
 use native.Mathlib.Omega.{arith}
 use lib.ListN.{take, drop}
 use borrow.Author.Rules.{rules}
-use borrow.Author.Tests.{not-true, not_false, ne_eqb}
+use borrow.Author.Tests.{not-true, not-false, ne_eqb}
 use types.Run.{miss}
 use Rattle.strobe.specs.Answer.{number}
 use Rattle.strobe.specs.Flags.{operation}
@@ -46,7 +46,7 @@ returns-3 c =
     let w = c.before.before in
     let o = w.before.before.before.before.before.before in
     let a = o.before.before.before.args in
-    shown_tells _ _ _ _ o.call.result _ (called o) _ _ w.before.enum_told.given.1 (sym (asked w) ∙ not_false _ c.before.if1.false)
+    shown_tells _ _ _ _ o.call.result _ (called o) _ _ w.before.enum_told.given.1 (sym (asked w) ∙ not-false _ c.before.if1.false)
     (omega arith) (omega arith)
     (put_part_stands 2 a.end a.buffer.now o.call.new.1.1.1.0 (omega arith) (omega arith) o.call.auto.1.1.1.0)
 

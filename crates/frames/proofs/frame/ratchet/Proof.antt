@@ -2,7 +2,7 @@
 use Prim.Native.Nat.{ℕ}
 use mathlib.Core.Path.{◌≡◌}
 use mathlib.Core.List.{List}
-use mathlib.Core.Bool.{cond, and_false}
+use mathlib.Core.Bool.{cond, and-false}
 use native.Mathlib.Omega.{arith}
 use lib.ListN.{take, drop, replicate}
 use borrow.Author.Rules.{rules}
@@ -29,7 +29,7 @@ ratcheted c o r h e =
     let zeros : List ℕ = replicate k.count_of.result 0 in
     let is = k.before.before.before.requires.0 in
     rw (ratchet_asks_zeros a.buffer.now a.count k.count_of.result k.before.if1.false (omega arith) k.count_of.ensures)
-    (unshown_tells a.session a.flags a.more zeros o zeros (rw (ratchet_by_its_bit a.flags is) (rw c.has.ensures at h)) r _ e (rw (is, and_false)))
+    (unshown_tells a.session a.flags a.more zeros o zeros (rw (ratchet_by_its_bit a.flags is) (rw c.has.ensures at h)) r _ e (rw (is, and-false)))
 
 returns : tie.Need-returns
 returns c =

@@ -6,7 +6,7 @@ use native.Mathlib.Omega.{arith}
 use lib.ListN.{length, take}
 use lib.Seq.{length-take-le}
 use borrow.Author.Rules.{rules}
-use borrow.Author.Tests.{not-true, not_false}
+use borrow.Author.Tests.{not-true, not-false}
 use Rattle.hex_digits.specs.Digits.{value_of}
 use Rattle.frames.specs.Inside.{even}
 use Rattle.frames.proofs.Reading.{bad_stays, no_digit_spoils, upper_waits, full_spoils, byte_grows, stored_behind}
@@ -18,9 +18,9 @@ passed : (c : tie.Else3)
     → let a = c.before.before.before.before.before.before.before.args in
     (a.line.good ≡ true) × (value_of a.character < 16) × (a.line.half ≡ true) × (length (take a.line.count a.buffer.now) ≡ a.line.count)
 passed c = (
-  not_false _ c.before.before.before.if1.false,
+  not-false _ c.before.before.before.if1.false,
   omega arith,
-  not_false _ c.if3.false,
+  not-false _ c.if3.false,
   length-take-le _ _ (omega arith),
 )
 
@@ -28,14 +28,14 @@ returns : tie.Need-returns
 returns c = record { part = sym (bad_stays _ _ (not-true _ c.if1.true)); fits = search rules }
 
 returns-2 : tie.Need-returns-2
-returns-2 c = rw c.spoilt.ensures (record { part = sym (no_digit_spoils _ _ (not_false _ c.before.before.if1.false) (omega arith)); fits = search rules })
+returns-2 c = rw c.spoilt.ensures (record { part = sym (no_digit_spoils _ _ (not-false _ c.before.before.if1.false) (omega arith)); fits = search rules })
 
 returns-3 : tie.Need-returns-3
 returns-3 c =
     record {
       part =
           rw c.before.before.before.before.before.value.ensures
-          (sym (upper_waits _ _ (not_false _ c.before.before.before.if1.false) (omega arith) (not-true _ c.if3.true)));
+          (sym (upper_waits _ _ (not-false _ c.before.before.before.if1.false) (omega arith) (not-true _ c.if3.true)));
       fits = search rules;
     }
 

@@ -4,7 +4,7 @@ use mathlib.Core.Path.{◌≡◌, refl, ◌∙◌}
 use native.Mathlib.Omega.{arith}
 use lib.ListN.{length}
 use borrow.Author.Rules.{rules}
-use borrow.Author.Tests.{leb-true, leb-false, not-true, not_false}
+use borrow.Author.Tests.{leb-true, leb-false, not-true, not-false}
 use Rattle.frames.specs.Steps.{line_limit, answer_limit, part_of}
 use Rattle.frames.proofs.Walking.{Going, going_start, walks_open, walks_on, walk_moves, walks_end, walks_full}
 use Rattle.frames.proofs.walk.walk.Statement.{statement}
@@ -46,7 +46,7 @@ loop-less c =
     let met = k.before.before.before.before.take in
     let moves =
     walk_moves _ _ _ _ _ l.line l.buffer _ l.taken l.put l.invariant.0 (enough k) met.result _ met.ensures
-    (not_false met.result.ended c.before.before.before.before.before.before.before.before.before.if2.false) in
+    (not-false met.result.ended c.before.before.before.before.before.before.before.before.before.if2.false) in
     omega (arith, moves, met.ensures.within)
 
 loop-again : tie.Need-loop-preserved invariant-loop decreases-loop
@@ -56,7 +56,7 @@ loop-again c =
     let met = k.before.before.before.before.take in
     let r = c.before.before.before.before.before.before.reply in
     let long = r.auto.1.1.1.1.0 ∙ l.invariant.3 in
-    let ended = not_false met.result.ended c.before.before.before.before.before.before.before.before.before.if2.false in (
+    let ended = not-false met.result.ended c.before.before.before.before.before.before.before.before.before.if2.false in (
       rw c.empty.ensures
           (walks_on _ _ _ _ _ l.line l.buffer l.out l.taken l.put l.invariant.0 (enough k) met.result _ met.ensures ended
           r.result r.new.1.1.1.0 r.new.1.1.1.1.0

@@ -11,10 +11,10 @@ pub returns-then-next-rate : goal.returns-then-next-rate
 unfolding step
 returns-then-next-rate c =
     let a = c.args in
-    closes (sponge a.rate) (placed absorbing (duplex_of a.st-1.now a.places) a.byte) _ _ _ c.if-next-rate.true c.run_f.ensures refl refl
+    closes (sponge a.rate) (placed absorbing (duplex_of a.st.now a.places) a.byte) _ _ _ c.if-next-rate.true c.run_f.ensures refl refl
 
 pub returns : goal.returns
 unfolding step
 returns c =
     let a = c.args in
-    keeps (sponge a.rate) (placed absorbing (duplex_of a.st-1.now a.places) a.byte) _ _ _ c.if-next-rate.false refl refl refl
+    keeps (sponge a.rate) (placed absorbing (duplex_of a.st.now a.places) a.byte) _ _ _ c.if-next-rate.false refl refl refl

@@ -19,8 +19,8 @@ loop-i-preserved-then-pos-rate c =
     let s = c.copy_state in
     let sp = sponge a.rate in
     let k = l.i + n - l.i in
-    passes sp copying _ a.buf-1.now l.st l.pos l.begin l.buf-1 l.i n k (omega arith) l.invariant (omega arith) (omega arith) (omega arith)
-    s.new.0 s.ensures.state _ (closes sp (at s.new.0 (l.pos + n) l.begin) _ _ _ (search rules) c.run_f.ensures refl refl)
+    passes sp copying _ a.buf.now l.st l.pos l.begin l.buf l.i n k (omega arith) l.invariant (omega arith) (omega arith) (omega arith)
+    s.new.st s.ensures.state _ (closes sp (at s.new.st (l.pos + n) l.begin) _ _ _ (search rules) c.run_f.ensures refl refl)
     _ s.ensures.lent _ refl
 
 pub loop-i-preserved : goal.loop-i-preserved
@@ -31,8 +31,8 @@ loop-i-preserved c =
     let s = c.copy_state in
     let sp = sponge a.rate in
     let k = l.i + n - l.i in
-    passes sp copying _ a.buf-1.now l.st l.pos l.begin l.buf-1 l.i n k (omega arith) l.invariant (omega arith) (omega arith) (omega arith)
-    s.new.0 s.ensures.state _ (keeps sp (at s.new.0 (l.pos + n) l.begin) _ _ _ c.if-pos-rate.false refl refl refl)
+    passes sp copying _ a.buf.now l.st l.pos l.begin l.buf l.i n k (omega arith) l.invariant (omega arith) (omega arith) (omega arith)
+    s.new.st s.ensures.state _ (keeps sp (at s.new.st (l.pos + n) l.begin) _ _ _ c.if-pos-rate.false refl refl refl)
     _ s.ensures.lent _ refl
 
 pub shape_of-buf : goal.shape_of-buf

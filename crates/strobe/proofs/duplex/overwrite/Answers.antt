@@ -20,7 +20,7 @@ loop-i-preserved-then-pos-rate c =
     let sp = sponge a.rate in
     let k = l.i + n - l.i in
     feeds sp overwriting _ a.bytes.now (λ x b. refl) l.st l.pos l.begin l.i n k (omega arith) l.invariant (omega arith) (omega arith) (omega arith)
-    s.new.0 s.ensures _ (closes sp (at s.new.0 (l.pos + n) l.begin) _ _ _ (search rules) c.run_f.ensures refl refl)
+    s.new.st s.ensures _ (closes sp (at s.new.st (l.pos + n) l.begin) _ _ _ (search rules) c.run_f.ensures refl refl)
 
 pub loop-i-preserved : goal.loop-i-preserved
 loop-i-preserved c =
@@ -31,7 +31,7 @@ loop-i-preserved c =
     let sp = sponge a.rate in
     let k = l.i + n - l.i in
     feeds sp overwriting _ a.bytes.now (λ x b. refl) l.st l.pos l.begin l.i n k (omega arith) l.invariant (omega arith) (omega arith) (omega arith)
-    s.new.0 s.ensures _ (keeps sp (at s.new.0 (l.pos + n) l.begin) _ _ _ c.if-pos-rate.false refl refl refl)
+    s.new.st s.ensures _ (keeps sp (at s.new.st (l.pos + n) l.begin) _ _ _ c.if-pos-rate.false refl refl refl)
 
 pub returns : goal.returns
 returns c = (stop _ _ _ _ _ _ _ c.loop-i.invariant c.loop-i-test.false).0

@@ -21,7 +21,7 @@ loop-i-preserved-then-pos-rate c =
     let sp = sponge a.rate in
     let z = replicate {A = ℕ} a.n 0 in
     feeds sp zeroing _ z (λ x b. refl) l.st l.pos l.begin l.i n n refl l.invariant (omega arith) (rw (length-replicate {A = ℕ} a.n 0) (omega arith)) (omega arith)
-    s.new.0 (s.ensures ∙ ap (part zeroing l.st l.pos) (sym (zeros l.i n a.n (omega arith)))) _ (closes sp (at s.new.0 (l.pos + n) l.begin) _ _ _ (search rules) c.run_f.ensures refl refl)
+    s.new.st (s.ensures ∙ ap (part zeroing l.st l.pos) (sym (zeros l.i n a.n (omega arith)))) _ (closes sp (at s.new.st (l.pos + n) l.begin) _ _ _ (search rules) c.run_f.ensures refl refl)
 
 pub loop-i-preserved : goal.loop-i-preserved
 loop-i-preserved c =
@@ -32,7 +32,7 @@ loop-i-preserved c =
     let sp = sponge a.rate in
     let z = replicate {A = ℕ} a.n 0 in
     feeds sp zeroing _ z (λ x b. refl) l.st l.pos l.begin l.i n n refl l.invariant (omega arith) (rw (length-replicate {A = ℕ} a.n 0) (omega arith)) (omega arith)
-    s.new.0 (s.ensures ∙ ap (part zeroing l.st l.pos) (sym (zeros l.i n a.n (omega arith)))) _ (keeps sp (at s.new.0 (l.pos + n) l.begin) _ _ _ c.if-pos-rate.false refl refl refl)
+    s.new.st (s.ensures ∙ ap (part zeroing l.st l.pos) (sym (zeros l.i n a.n (omega arith)))) _ (keeps sp (at s.new.st (l.pos + n) l.begin) _ _ _ c.if-pos-rate.false refl refl refl)
 
 pub returns : goal.returns
 returns c = (stop _ _ _ _ _ _ _ c.loop-i.invariant (rw (length-replicate {A = ℕ} c.args.n 0) c.loop-i-test.false)).0

@@ -1,12 +1,7 @@
 -- `mixed`, by its test of T. Assumes nothing.
 use mathlib.Core.Path.{sym, ◌∙◌}
-use native.Mathlib.Omega.{arith}
 use Rattle.strobe.specs.Strobe.{mixed}
-use Rattle.strobe.proofs.Calls.{disagrees-bit}
 use Rattle.strobe.proofs.direction.Direction.mixed.Goals as goal
-
-pub overflow-add-result : goal.overflow-add-result
-overflow-add-result c = omega (arith, c.disagrees.ensures, disagrees-bit c.args.self c.has-then-has.result)
 
 pub returns-then-has : goal.returns-then-has
 unfolding mixed

@@ -18,9 +18,9 @@ returns-then-refuses c =
     let step = l.piece_size-step.result in
     let h = (rw l.loop-buf.invariant.1 at c.call-piece.ensures) in
     comes_whole z.args.self.level sp _ _ z.args.size _ _ _ _ _ _ _ l.loop-buf.invariant.2 h
-    (cut_refused sp z.args.flags step (seen z.args.self) z.args.more z.args.buf-1.now
-    (seen l.loop-buf.session) l.loop-buf.on l.loop-buf.buf-1 l.loop-buf.a l.loop-buf.invariant.0
-    (cut_size z.args.size (length z.args.buf-1.now) step _ l.loop-buf.invariant.2 c.loop-buf-test.true (omega (arith, l.loop-buf.invariant.0.long))) c.loop-buf-test.true (l.loop-buf.a + step - l.loop-buf.a) (omega arith)
+    (cut_refused sp z.args.flags step (seen z.args.self) z.args.more z.args.buf.now
+    (seen l.loop-buf.session) l.loop-buf.on l.loop-buf.buf l.loop-buf.a l.loop-buf.invariant.0
+    (cut_size z.args.size (length z.args.buf.now) step _ l.loop-buf.invariant.2 c.loop-buf-test.true (omega (arith, l.loop-buf.invariant.0.long))) c.loop-buf-test.true (l.loop-buf.a + step - l.loop-buf.a) (omega arith)
     _ h.outcome.answer _ c.refuses.ensures c.if-refuses.true _ h.lent)
 
 pub loop-buf-smaller : goal.loop-buf-smaller
@@ -28,7 +28,7 @@ loop-buf-smaller c =
     let l = c in
     let z = c in
     let step = l.piece_size-step.result in
-    let some : 0 < step = cut_size z.args.size (length z.args.buf-1.now) step _ l.loop-buf.invariant.2 c.loop-buf-test.true (omega (arith, l.loop-buf.invariant.0.long)) in
+    let some : 0 < step = cut_size z.args.size (length z.args.buf.now) step _ l.loop-buf.invariant.2 c.loop-buf-test.true (omega (arith, l.loop-buf.invariant.0.long)) in
     omega (arith, l.loop-buf.invariant.0.long, c.loop-buf-test.true)
 
 pub loop-buf-preserved : goal.loop-buf-preserved
@@ -38,9 +38,9 @@ loop-buf-preserved c =
     let sp = sponge_of z.args.self.level in
     let step = l.piece_size-step.result in
     let h = (rw l.loop-buf.invariant.1 at c.call-piece.ensures) in (
-      cut_turn sp z.args.flags step (seen z.args.self) z.args.more z.args.buf-1.now
-          (seen l.loop-buf.session) l.loop-buf.on l.loop-buf.buf-1 l.loop-buf.a l.loop-buf.invariant.0
-          (cut_size z.args.size (length z.args.buf-1.now) step _ l.loop-buf.invariant.2 c.loop-buf-test.true (omega (arith, l.loop-buf.invariant.0.long))) c.loop-buf-test.true (l.loop-buf.a + step - l.loop-buf.a) (omega arith)
+      cut_turn sp z.args.flags step (seen z.args.self) z.args.more z.args.buf.now
+          (seen l.loop-buf.session) l.loop-buf.on l.loop-buf.buf l.loop-buf.a l.loop-buf.invariant.0
+          (cut_size z.args.size (length z.args.buf.now) step _ l.loop-buf.invariant.2 c.loop-buf-test.true (omega (arith, l.loop-buf.invariant.0.long))) c.loop-buf-test.true (l.loop-buf.a + step - l.loop-buf.a) (omega arith)
           _ h.outcome.answer _ c.refuses.ensures c.if-refuses.false
           _ (ap seen h.outcome.session) _ h.lent _ refl,
       ap (λ (s : Session). s.level) h.outcome.session,
@@ -55,6 +55,6 @@ returns c =
     let step = l.piece_size-step.result in
     let h = (rw l.loop-buf.invariant.1 at c.call.ensures) in
     comes_whole z.args.self.level sp _ _ z.args.size _ _ _ _ _ _ _ l.loop-buf.invariant.2 h
-    (cut_last sp z.args.flags step (seen z.args.self) z.args.more z.args.buf-1.now
-    (seen l.loop-buf.session) l.loop-buf.on l.loop-buf.buf-1 l.loop-buf.a l.loop-buf.invariant.0
-    c.loop-buf-test.false (length l.loop-buf.buf-1 - l.loop-buf.a) refl _ h.lent)
+    (cut_last sp z.args.flags step (seen z.args.self) z.args.more z.args.buf.now
+    (seen l.loop-buf.session) l.loop-buf.on l.loop-buf.buf l.loop-buf.a l.loop-buf.invariant.0
+    c.loop-buf-test.false (length l.loop-buf.buf - l.loop-buf.a) refl _ h.lent)
