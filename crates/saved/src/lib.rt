@@ -88,6 +88,7 @@ fn last_of(byte: u8) -> Last
 }
 
 // Whether bytes have an edition's number in front, and its size.
+#[tactic(auto, unfolding(crate::specs::Saved::is_numbered))]
 fn is_edition(bytes: &[u8], number: u8, size: usize) -> bool
     requires { size_of edition1 ≤ size }
     ensures { result ≡ is_numbered number size bytes.now }
@@ -129,6 +130,7 @@ fn is_level(byte: u8) -> bool
 }
 
 // Whether they and the byte of a last operation belong to a session.
+#[tactic(auto, unfolding(crate::specs::Saved::fits))]
 fn fits(head: Head, last: u8) -> bool
     ensures { result ≡ fits head.level head.pos head.begin head.direction last }
 {
@@ -153,7 +155,7 @@ fn state_in(form: &[u8]) -> [u8; 200]
     ensures { result ≡ take 200 (drop 5 form.now) }
 {
     let mut state = [0u8; 200];
-    bytes::copy(&form[STATE..STATE_END], &mut state);
+    state.copy_from_slice(&form[STATE..STATE_END]);
     state
 }
 
@@ -220,7 +222,7 @@ fn write_form(
     buf[2] = pos;
     buf[3] = begin;
     buf[4] = direction;
-    bytes::copy(&state, &mut buf[STATE..STATE_END]);
+    buf[STATE..STATE_END].copy_from_slice(&state);
     buf[LAST] = last;
 }
 
