@@ -48,8 +48,9 @@ pub fn ratchet(session: &mut Session, count: usize, more: bool) -> Report
 pub fn prf(session: &mut Session, buf: &mut [u8], more: bool) -> Report
     ensures { Calls session.old PRF more buf.old (outcome session.new result) buf.new }
 {
+    let state = session.state;
     let whole = Session {
-        state: session.state,
+        state,
         level: session.level,
         pos: session.pos,
         begin: session.begin,
@@ -57,7 +58,8 @@ pub fn prf(session: &mut Session, buf: &mut [u8], more: bool) -> Report
         last: session.last,
     };
     let out = Session::prf(whole, buf, more);
-    session.state = out.session.state;
+    let left = out.session.state;
+    session.state = left;
     session.level = out.session.level;
     session.pos = out.session.pos;
     session.begin = out.session.begin;
