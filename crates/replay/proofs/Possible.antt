@@ -115,7 +115,8 @@ module _ (Edition : Type 0) where
         let e : operation (mirrored a.flags) ≡ other (operation a.flags) = turned_operation a.flags r.one_of_twenty in
         record {
           lends = cut_lends (operation a.flags) a r.one_of_twenty;
-          within = rw e (cut_within (operation a.flags) a (λ m. rw long (h m)));
+          within = subst (λ (p : Operation). Every (λ (x : List ℕ). over_limit p (length x) ≡ false) ((cutting a).first ∷ (cutting a).others)) (sym e)
+              (cut_within (operation a.flags) a (λ m. rw long (h m)));
           uncut = λ m. cut_whole (operation a.flags) a (rw e at m);
         }
 
