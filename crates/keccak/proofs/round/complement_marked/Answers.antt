@@ -9,14 +9,14 @@ use Rattle.fips202.proofs.Steps.{lanes-whole}
 use Rattle.keccak.specs.Complemented.{complemented}
 use Rattle.keccak.proofs.round.complement_marked.Goals as goal
 
-abbrev complementAt : ℕ → List ℕ → List ℕ
-complementAt i s = set s i (complement 64 (get_or s i 0))
+abbrev complement_at : ℕ → List ℕ → List ℕ
+complement_at i s = set s i (complement 64 (get_or s i 0))
 
 pub returns : goal.returns
 unfolding complemented
 returns c =
     subst
     (λ (s : List ℕ).
-    complementAt 20 (complementAt 17 (complementAt 12 (complementAt 8 (complementAt 2 (complementAt 1 s))))) ≡ complemented 64 s)
+    complement_at 20 (complement_at 17 (complement_at 12 (complement_at 8 (complement_at 2 (complement_at 1 s))))) ≡ complemented 64 s)
     (lanes-whole c.args.a (search rules))
     refl
