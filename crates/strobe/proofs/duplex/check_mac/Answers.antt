@@ -1,10 +1,8 @@
-use Prim.Native.Nat.{◌-◌}
 use mathlib.Core.Path.{◌≡◌, refl, sym, ◌∙◌}
 use lib.ListN.{get_or}
 use lib.Seq.{set-get_or}
 use borrow.Author.Rules.{rules}
 use Rattle.strobe.specs.Duplex.{placed, step}
-use Rattle.strobe.specs.Duplex as Def
 use Rattle.strobe.specs.Flags.{overwriting}
 use Rattle.strobe.specs.Loops.{at}
 use Rattle.strobe.specs.Session.{sponge}

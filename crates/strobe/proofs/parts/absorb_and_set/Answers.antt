@@ -1,4 +1,3 @@
-use Prim.Native.Nat.{◌-◌}
 use mathlib.Core.Path.{refl}
 use Rattle.strobe.proofs.Loops.{begins, goes, ends}
 use Rattle.strobe.proofs.parts.absorb_and_set.Goals as goal

@@ -1,4 +1,3 @@
-use Prim.Native.Nat.{◌-◌}
 use mathlib.Core.Path.{refl, sym}
 use lib.Seq.{set-get_or}
 use Rattle.strobe.proofs.Loops.{begins, goes, ends}

@@ -1,4 +1,3 @@
-use Prim.Native.Nat.{◌-◌}
 use mathlib.Core.Path.{refl}
 use Rattle.strobe.proofs.Loops.{begins, goes, ends}
 use Rattle.strobe.proofs.parts.squeeze.Goals as goal
