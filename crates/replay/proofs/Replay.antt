@@ -4,7 +4,7 @@ use mathlib.Core.Path.{◌≡◌, refl, sym, ap, ap₂, subst, subst₂}
 use mathlib.Core.List.{List, [], ◌∷◌, map}
 use Rattle.strobe.specs.Duplex.{Sponge, Duplex}
 use Rattle.strobe.specs.Every.{Every}
-use Rattle.strobe.specs.Flags.{known, rule_of}
+use Rattle.strobe.specs.Flags.{rule_of}
 use Rattle.strobe.specs.Strobe.{Strobe, begin_op, opened, verdict, worked, unnamed, fresh}
 use Rattle.strobe.specs.declared.direction.Direction.{Direction}
 use Rattle.replay.specs.Each.{Each}

@@ -1,11 +1,11 @@
 -- The state's bytes are copied out of a saved form and into it, and the byte behind them is set. Assumes nothing.
 use Prim.Native.Nat.{ℕ, ◌≤◌}
 use mathlib.Core.Path.{◌≡◌, refl, sym, ap, ap₂, ◌∙◌}
-use mathlib.Core.List.{List, [], ◌∷◌, ◌++◌, append-nil, append_assoc}
+use mathlib.Core.List.{List, [], ◌∷◌, ◌++◌, append_assoc}
 use native.Mathlib.Omega.{arith}
-use lib.ListN.{length, get_or, set, take, drop, length-set, length-append, length-drop, drop_of_length-le}
-use lib.Seq.{length-take-le, take_all, drop-cons, set_at}
-use borrow.Rule.Slice.PartMut.{mid_of, put_mid, Post-is}
+use lib.ListN.{length, get_or, set, take, drop, length-set, length-append, length-drop}
+use lib.Seq.{length-take-le, drop-cons, set_at}
+use borrow.Rule.Slice.PartMut.{put_mid, Post-is}
 
 -- ---- out
 

@@ -1,5 +1,4 @@
 use mathlib.Core.Path.{◌≡◌, ◌∙◌}
-use Prim.Native.Nat.{◌-◌}
 use native.Mathlib.Omega.{arith}
 use borrow.Author.Rules.{rules}
 use Rattle.keccak.proofs.Loops.{turns, turns_more, write_at, write_all}
