@@ -48,7 +48,7 @@ fn not_tried(session: Session) -> Trial {
 }
 
 fn noted(answer: Answer, before: [u8; 400], after: [u8; 400]) -> Note {
-    if check::same(&before, &after) {
+    if before == after {
         Note::Answered(answer)
     } else {
         Note::Changed

@@ -12,91 +12,92 @@ use crate::before::Note;
 use crate::ends::{End, Ends};
 use crate::output;
 use crate::plan::{Middle, Part, Step};
+use std::io;
 use strobe::Answer;
 
-fn write_answer(answer: Answer) {
-    output::write_number(answer.number() as u64);
+fn write_answer(rt: &impl Print, answer: Answer) -> io::Result<()> {
+    output::write_number(rt, answer.number() as u64)
 }
 
-fn write_edition(edition: u8) {
+fn write_edition(rt: &impl Print, edition: u8) -> io::Result<()> {
     if edition == 0 {
-        output::write_text(b"-");
+        output::write_text(rt, b"-")
     } else {
-        output::write_number(edition as u64);
+        output::write_number(rt, edition as u64)
     }
 }
 
-fn write_middle(middle: Middle, edition: u8) {
+fn write_middle(rt: &impl Print, middle: Middle, edition: u8) -> io::Result<()> {
     if let Middle::After(n) = middle {
-        output::write_number(n as u64);
-        output::write_text(b":");
+        output::write_number(rt, n as u64)?;
+        output::write_text(rt, b":")?;
     }
-    write_edition(edition);
+    write_edition(rt, edition)
 }
 
-fn write_note(note: Note) {
+fn write_note(rt: &impl Print, note: Note) -> io::Result<()> {
     match note {
-        Note::Nothing => output::write_text(b"-"),
-        Note::Answered(answer) => write_answer(answer),
-        Note::Changed => output::write_text(b"changed"),
+        Note::Nothing => output::write_text(rt, b"-"),
+        Note::Answered(answer) => write_answer(rt, answer),
+        Note::Changed => output::write_text(rt, b"changed"),
     }
 }
 
-fn write_lent(bytes: [u8; 400], part: Part) {
+fn write_lent(rt: &impl Print, bytes: [u8; 400], part: Part) -> io::Result<()> {
     let n = part.len();
-    output::write_hex(&bytes[0..n]);
+    output::write_hex(rt, &bytes[0..n])
 }
 
 // What came before the operation's answer, each with the space before it.
-fn write_before(end: End, part: Part) {
+fn write_before(rt: &impl Print, end: End, part: Part) -> io::Result<()> {
     let before = end.before;
     let went_on = before.went_on;
     let refused = before.refused;
     let middle = part.middle;
-    output::write_text(b" ");
-    write_edition(before.edition);
-    output::write_text(b" ");
-    write_note(went_on);
-    output::write_text(b" ");
-    write_note(refused);
-    output::write_text(b" ");
-    write_middle(middle, end.edition);
+    output::write_text(rt, b" ")?;
+    write_edition(rt, before.edition)?;
+    output::write_text(rt, b" ")?;
+    write_note(rt, went_on)?;
+    output::write_text(rt, b" ")?;
+    write_note(rt, refused)?;
+    output::write_text(rt, b" ")?;
+    write_middle(rt, middle, end.edition)
 }
 
-fn write_end(end: End, part: Part) {
+fn write_end(rt: &impl Print, end: End, part: Part) -> io::Result<()> {
     let answer = end.answer;
     let bytes = end.bytes;
-    write_before(end, part);
-    output::write_text(b" ");
-    write_answer(answer);
-    output::write_text(b" ");
-    output::write_number(end.session.pos as u64);
-    output::write_text(b" ");
-    output::write_number(end.session.begin as u64);
-    output::write_text(b" ");
-    write_lent(bytes, part);
-    output::write_text(b";");
+    write_before(rt, end, part)?;
+    output::write_text(rt, b" ")?;
+    write_answer(rt, answer)?;
+    output::write_text(rt, b" ")?;
+    output::write_number(rt, end.session.pos as u64)?;
+    output::write_text(rt, b" ")?;
+    output::write_number(rt, end.session.begin as u64)?;
+    output::write_text(rt, b" ")?;
+    write_lent(rt, bytes, part)?;
+    output::write_text(rt, b";")
 }
 
-pub fn write(number: u64, step: Step, ends: Ends) {
+pub fn write(rt: &impl Print, number: u64, step: Step, ends: Ends) -> io::Result<()> {
     let flags = step.first.flags;
-    output::write_number(number);
-    output::write_text(b" ");
-    output::write_hex(&[flags.0]);
-    output::write_text(b" ");
-    output::write_number(step.first.len() as u64);
-    output::write_text(b";");
-    write_end(ends.first, step.first);
-    write_end(ends.second, step.second);
-    output::write_text(b"\n");
+    output::write_number(rt, number)?;
+    output::write_text(rt, b" ")?;
+    output::write_hex(rt, &[flags.0])?;
+    output::write_text(rt, b" ")?;
+    output::write_number(rt, step.first.len() as u64)?;
+    output::write_text(rt, b";")?;
+    write_end(rt, ends.first, step.first)?;
+    write_end(rt, ends.second, step.second)?;
+    output::write_text(rt, b"\n")
 }
 
-pub fn write_states(ends: Ends) {
+pub fn write_states(rt: &impl Print, ends: Ends) -> io::Result<()> {
     let first = ends.first.session.state;
     let second = ends.second.session.state;
-    output::write_text(b"states; ");
-    output::write_hex(&first);
-    output::write_text(b"; ");
-    output::write_hex(&second);
-    output::write_text(b";\n");
+    output::write_text(rt, b"states; ")?;
+    output::write_hex(rt, &first)?;
+    output::write_text(rt, b"; ")?;
+    output::write_hex(rt, &second)?;
+    output::write_text(rt, b";\n")
 }

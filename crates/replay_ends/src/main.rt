@@ -14,6 +14,7 @@ mod plan;
 mod reload;
 
 use ends::Ends;
+use std::io;
 use strobe::{Level, Session};
 
 // The plan's session and the two ends.
@@ -24,36 +25,36 @@ struct Game {
 }
 
 // With the number behind its name the plan has all that vectors/replay_plan.py asks of it.
-fn begun(level: Level) -> Game {
+fn begun(rt: &impl Print, level: Level) -> io::Result<Game> {
     let plan = Session::new(b"a plan for two ends, 2713", level).session;
-    output::write_text(&plan.version_str());
-    output::write_text(b"\n");
-    Game {
+    output::write_text(rt, &plan.version_str())?;
+    output::write_text(rt, b"\n")?;
+    Ok(Game {
         plan,
         ends: Ends::new(level),
-    }
+    })
 }
 
 // One operation, with its line.
-fn operation(game: Game, number: u64) -> Game {
+fn operation(rt: &impl Print, game: Game, number: u64) -> io::Result<Game> {
     let step = plan::drawn(game.plan, number == 0);
     let ends = game.ends.play(step);
-    line::write(number, step, ends);
+    line::write(rt, number, step, ends)?;
     let plan = step.plan;
-    Game { plan, ends }
+    Ok(Game { plan, ends })
 }
 
-fn replay(level: Level) {
-    let mut game = begun(level);
+fn replay(rt: &impl Print, level: Level) -> io::Result<()> {
+    let mut game = begun(rt, level)?;
     let mut number: u64 = 0;
     while number < 200 {
-        game = operation(game, number);
+        game = operation(rt, game, number)?;
         number += 1;
     }
-    line::write_states(game.ends);
+    line::write_states(rt, game.ends)
 }
 
-fn main() {
-    replay(Level::B128);
-    replay(Level::B256);
+fn main(rt: HostRuntime) -> io::Result<()> {
+    replay(&rt, Level::B128)?;
+    replay(&rt, Level::B256)
 }

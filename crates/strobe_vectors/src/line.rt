@@ -1,5 +1,6 @@
 // The line of a creation or a call: its answer, the session's parts, the lent bytes and the state.
 use crate::output;
+use std::io;
 use strobe::{Answer, Direction, Last, Outcome, Session};
 
 // Two decimal digits.
@@ -41,28 +42,28 @@ pub fn parts(session: Session) -> [u8; 6] {
 }
 
 // The parts before the lent bytes, with the space after each.
-fn write_head(out: Outcome) {
+fn write_head(rt: &impl Print, out: Outcome) -> io::Result<()> {
     let session = out.session;
     let answer = out.answer;
     let direction = session.direction;
     let last = session.last;
-    output::write_text(&number(answer));
-    output::write_text(b" ");
-    output::write_text(&place(session.pos));
-    output::write_text(b" ");
-    output::write_text(&place(session.begin));
-    output::write_text(b" ");
-    output::write_text(&[end(direction), b' ']);
-    output::write_text(&flags(last));
-    output::write_text(b" ");
+    output::write_text(rt, &number(answer))?;
+    output::write_text(rt, b" ")?;
+    output::write_text(rt, &place(session.pos))?;
+    output::write_text(rt, b" ")?;
+    output::write_text(rt, &place(session.begin))?;
+    output::write_text(rt, b" ")?;
+    output::write_text(rt, &[end(direction), b' '])?;
+    output::write_text(rt, &flags(last))?;
+    output::write_text(rt, b" ")
 }
 
-pub fn write(out: Outcome, lent: &[u8]) {
-    write_head(out);
-    output::write_hex(lent);
-    output::write_text(b" ");
+pub fn write(rt: &impl Print, out: Outcome, lent: &[u8]) -> io::Result<()> {
+    write_head(rt, out)?;
+    output::write_hex(rt, lent)?;
+    output::write_text(rt, b" ")?;
     let session = out.session;
     let state = session.state;
-    output::write_hex(&state);
-    output::write_text(b"\n");
+    output::write_hex(rt, &state)?;
+    output::write_text(rt, b"\n")
 }

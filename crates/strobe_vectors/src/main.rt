@@ -18,19 +18,20 @@ mod trials;
 mod turns;
 mod version;
 
+use std::io;
 use strobe::Level;
 
-fn main() {
-    version::write(Level::B128);
-    version::write(Level::B256);
-    sequence::write(Level::B128);
-    ends::write(128);
-    sequence::write(Level::B256);
-    ends::write(256);
-    numbered::write();
-    pieces::write();
-    refusals::write();
-    merlin::write();
-    forms::write();
-    turns::write();
+fn main(rt: HostRuntime) -> io::Result<()> {
+    version::write(&rt, Level::B128)?;
+    version::write(&rt, Level::B256)?;
+    sequence::write(&rt, Level::B128)?;
+    ends::write(&rt, 128)?;
+    sequence::write(&rt, Level::B256)?;
+    ends::write(&rt, 256)?;
+    numbered::write(&rt)?;
+    pieces::write(&rt)?;
+    refusals::write(&rt)?;
+    merlin::write(&rt)?;
+    forms::write(&rt)?;
+    turns::write(&rt)
 }

@@ -1,5 +1,6 @@
 // The published transcript of Merlin, which is STROBE-128.
 use crate::output;
+use std::io;
 use strobe::{Level, Session};
 
 // A length as four bytes, the least first.
@@ -25,12 +26,12 @@ fn append(s: Session, label: &[u8], message: &[u8]) -> Session {
         .session
 }
 
-pub fn write() {
+pub fn write(rt: &impl Print) -> io::Result<()> {
     let s = Session::new(b"Merlin v1.0", Level::B128).session;
     let s = append(s, b"dom-sep", b"test protocol");
     let s = append(s, b"some label", b"some data");
     let mut challenge = [0u8; 32];
     announced(s, b"challenge", 32).prf(&mut challenge, false);
-    output::write_hex(&challenge);
-    output::write_text(b"\n");
+    output::write_hex(rt, &challenge)?;
+    output::write_text(rt, b"\n")
 }

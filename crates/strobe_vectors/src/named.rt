@@ -1,5 +1,6 @@
 // Calls by name, each with its line.
 use crate::{data, line};
+use std::io;
 use strobe::{Flags, Outcome, Session};
 
 // The ratchets take a count in place of bytes, and have functions of their own below.
@@ -28,29 +29,46 @@ fn by_name(session: Session, flags: Flags, more: bool, buf: &mut [u8]) -> Outcom
     }
 }
 
-pub fn call(session: Session, flags: Flags, more: bool, buf: &mut [u8]) -> Session {
+pub fn call(
+    rt: &impl Print,
+    session: Session,
+    flags: Flags,
+    more: bool,
+    buf: &mut [u8],
+) -> io::Result<Session> {
     let out = by_name(session, flags, more, buf);
-    line::write(out, buf);
-    out.session
+    line::write(rt, out, buf)?;
+    Ok(out.session)
 }
 
 // A call on so many counting bytes.
-pub fn step(session: Session, flags: Flags, more: bool, count: u8) -> Session {
+pub fn step(
+    rt: &impl Print,
+    session: Session,
+    flags: Flags,
+    more: bool,
+    count: u8,
+) -> io::Result<Session> {
     let mut bytes = [0u8; 256];
     let n = count as usize;
     let buf = &mut bytes[0..n];
     data::count_up(buf, flags.0);
-    call(session, flags, more, buf)
+    call(rt, session, flags, more, buf)
 }
 
-pub fn ratchet(session: Session, count: usize, more: bool) -> Session {
+pub fn ratchet(rt: &impl Print, session: Session, count: usize, more: bool) -> io::Result<Session> {
     let out = session.ratchet(count, more);
-    line::write(out, b"");
-    out.session
+    line::write(rt, out, b"")?;
+    Ok(out.session)
 }
 
-pub fn meta_ratchet(session: Session, count: usize, more: bool) -> Session {
+pub fn meta_ratchet(
+    rt: &impl Print,
+    session: Session,
+    count: usize,
+    more: bool,
+) -> io::Result<Session> {
     let out = session.meta_ratchet(count, more);
-    line::write(out, b"");
-    out.session
+    line::write(rt, out, b"")?;
+    Ok(out.session)
 }

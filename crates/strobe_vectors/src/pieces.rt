@@ -1,25 +1,33 @@
 // Calls in pieces, each with its line.
 use crate::{data, line};
+use std::io;
 use strobe::{Flags, Level, Session};
 
 // 200 counting bytes in pieces of this size.
-fn step(session: Session, flags: Flags, more: bool, size: usize) -> Session {
+fn step(
+    rt: &impl Print,
+    session: Session,
+    flags: Flags,
+    more: bool,
+    size: usize,
+) -> io::Result<Session> {
     let mut bytes = [0u8; 200];
     data::count_up(&mut bytes, flags.0);
     let out = session.call_in_pieces(flags, more, size, &mut bytes);
-    line::write(out, &bytes);
-    out.session
+    line::write(rt, out, &bytes)?;
+    Ok(out.session)
 }
 
 // The MAC's first piece is done, and the next one is refused.
-pub fn write() {
+pub fn write(rt: &impl Print) -> io::Result<()> {
     let session = Session::new(&data::NAME, Level::B128).session;
-    let session = step(session, Flags::META_AD, true, 0);
-    let session = step(session, Flags::KEY, false, 1);
-    let session = step(session, Flags::SEND_ENC, false, 99);
-    let session = step(session, Flags::SEND_ENC, true, 166);
-    let session = step(session, Flags::PRF, false, 200);
-    let session = step(session, Flags::RATCHET, false, 1000);
-    let session = step(session, Flags::RECV_ENC, true, 7);
-    step(session, Flags::RECV_MAC, false, 64);
+    let session = step(rt, session, Flags::META_AD, true, 0)?;
+    let session = step(rt, session, Flags::KEY, false, 1)?;
+    let session = step(rt, session, Flags::SEND_ENC, false, 99)?;
+    let session = step(rt, session, Flags::SEND_ENC, true, 166)?;
+    let session = step(rt, session, Flags::PRF, false, 200)?;
+    let session = step(rt, session, Flags::RATCHET, false, 1000)?;
+    let session = step(rt, session, Flags::RECV_ENC, true, 7)?;
+    step(rt, session, Flags::RECV_MAC, false, 64)?;
+    Ok(())
 }

@@ -1,6 +1,7 @@
 // Loads and saves with every number below 256: as the value of a byte of a form, as the length of a form, as the length of a buffer.
 use crate::editions::Edition;
 use crate::{editions, output, refusals};
+use std::io;
 use strobe::{Answer, Flags, Last, Session};
 
 // What is tried with each number.
@@ -51,10 +52,10 @@ fn load_first(bytes: [u8; 256], n: u8) -> Case {
 // 3 where a buffer is as it was, 1 where only the bytes after the form are.
 fn kept(buf: [u8; 256]) -> u8 {
     let before = editions::counting();
-    if check::same(&buf, &before) {
+    if buf == before {
         return 3;
     }
-    if check::same(&buf[206..256], &before[206..256]) {
+    if buf[206..256] == before[206..256] {
         return 1;
     }
     0
@@ -81,12 +82,12 @@ fn tried(session: Session, trial: Trial, n: u8) -> Case {
     }
 }
 
-fn write_row(row: &[u8; 256]) {
-    output::write_hex(row);
-    output::write_text(b"\n");
+fn write_row(rt: &impl Print, row: &[u8; 256]) -> io::Result<()> {
+    output::write_hex(rt, row)?;
+    output::write_text(rt, b"\n")
 }
 
-fn write_trial(session: Session, trial: Trial) {
+fn write_trial(rt: &impl Print, session: Session, trial: Trial) -> io::Result<()> {
     let mut answers = [0u8; 256];
     let mut numbers = [0u8; 256];
     let mut lasts = [0u8; 256];
@@ -99,46 +100,52 @@ fn write_trial(session: Session, trial: Trial) {
         lasts[n] = case.last;
         n += 1;
     }
-    write_row(&answers);
-    write_row(&numbers);
-    write_row(&lasts);
+    write_row(rt, &answers)?;
+    write_row(rt, &numbers)?;
+    write_row(rt, &lasts)
 }
 
 // The bytes before the state.
-fn write_head(session: Session, edition: Edition) {
-    write_trial(session, Trial::Value(edition, 0));
-    write_trial(session, Trial::Value(edition, 1));
-    write_trial(session, Trial::Value(edition, 2));
-    write_trial(session, Trial::Value(edition, 3));
-    write_trial(session, Trial::Value(edition, 4));
+fn write_head(rt: &impl Print, session: Session, edition: Edition) -> io::Result<()> {
+    write_trial(rt, session, Trial::Value(edition, 0))?;
+    write_trial(rt, session, Trial::Value(edition, 1))?;
+    write_trial(rt, session, Trial::Value(edition, 2))?;
+    write_trial(rt, session, Trial::Value(edition, 3))?;
+    write_trial(rt, session, Trial::Value(edition, 4))
 }
 
-pub fn write_values(session: Session) {
-    write_head(session, Edition::One);
-    write_head(session, Edition::Two);
-    write_trial(session, Trial::Value(Edition::Two, 205));
+pub fn write_values(rt: &impl Print, session: Session) -> io::Result<()> {
+    write_head(rt, session, Edition::One)?;
+    write_head(rt, session, Edition::Two)?;
+    write_trial(rt, session, Trial::Value(Edition::Two, 205))
 }
 
 // Behind the form of edition 1 comes a last operation's byte: of its first 206 bytes only the edition is wrong.
-pub fn write_lengths(session: Session) {
-    write_trial(session, Trial::Length(Edition::One));
-    write_trial(session, Trial::Length(Edition::Two));
-    write_trial(session, Trial::Room);
+pub fn write_lengths(rt: &impl Print, session: Session) -> io::Result<()> {
+    write_trial(rt, session, Trial::Length(Edition::One))?;
+    write_trial(rt, session, Trial::Length(Edition::Two))?;
+    write_trial(rt, session, Trial::Room)
 }
 
 // Sessions that are not well formed: 8 comes before 11, and every byte is kept. The last two have no operation's flags for a last operation; the last
 // one's are what a form has for none.
-pub fn write_not_saved() {
+pub fn write_not_saved(rt: &impl Print) -> io::Result<()> {
     let state = [0u8; 200];
-    write_trial(Session::blank(), Trial::Room);
-    write_trial(refusals::made(state, 134, 0, Last::Nothing), Trial::Room);
-    write_trial(refusals::made(state, 4, 5, Last::Nothing), Trial::Room);
+    write_trial(rt, Session::blank(), Trial::Room)?;
     write_trial(
+        rt,
+        refusals::made(state, 134, 0, Last::Nothing),
+        Trial::Room,
+    )?;
+    write_trial(rt, refusals::made(state, 4, 5, Last::Nothing), Trial::Room)?;
+    write_trial(
+        rt,
         refusals::made(state, 5, 5, Last::Op(Flags(0x05))),
         Trial::Room,
-    );
+    )?;
     write_trial(
+        rt,
         refusals::made(state, 5, 5, Last::Op(Flags(0xff))),
         Trial::Room,
-    );
+    )
 }

@@ -1,6 +1,7 @@
 // A seat's turns on a lent session, each beside the same calls by value.
 use crate::{data, line, output};
 use lent::Turn;
+use std::io;
 use strobe::{Flags, Level, Outcome, Session};
 
 const EVENT: [u8; 9] = *b"north won";
@@ -104,55 +105,50 @@ fn numbers(turn: Turn) -> [u8; 5] {
 }
 
 fn same_session(a: Session, b: Session) -> bool {
-    let first = a.state;
-    let second = b.state;
-    if !check::same(&first, &second) {
-        return false;
-    }
-    check::same(&line::parts(a), &line::parts(b))
+    a.state == b.state && line::parts(a) == line::parts(b)
 }
 
 fn same(a: Left, b: Left) -> bool {
     if !same_session(a.turn.session, b.turn.session) {
         return false;
     }
-    if !check::same(&numbers(a.turn), &numbers(b.turn)) {
+    if numbers(a.turn) != numbers(b.turn) {
         return false;
     }
-    if !check::same(&a.buf, &b.buf) {
+    if a.buf != b.buf {
         return false;
     }
-    if !check::same(&a.dice, &b.dice) {
+    if a.dice != b.dice {
         return false;
     }
-    check::same(&a.form, &b.form)
+    a.form == b.form
 }
 
-fn write_left(left: Left) {
+fn write_left(rt: &impl Print, left: Left) -> io::Result<()> {
     let turn = left.turn;
     let session = turn.session;
     let answer = turn.called;
     let buf = left.buf;
-    line::write(Outcome { session, answer }, &buf);
-    output::write_hex(&numbers(turn));
-    output::write_text(b" ");
+    line::write(rt, Outcome { session, answer }, &buf)?;
+    output::write_hex(rt, &numbers(turn))?;
+    output::write_text(rt, b" ")?;
     let dice = left.dice;
-    output::write_hex(&dice);
-    output::write_text(b" ");
+    output::write_hex(rt, &dice)?;
+    output::write_text(rt, b" ")?;
     let form = left.form;
-    output::write_hex(&form);
-    output::write_text(b"\n");
+    output::write_hex(rt, &form)?;
+    output::write_text(rt, b"\n")
 }
 
 // One turn in both ways: two lines, if they agree.
-fn take(session: Session, way: Way) -> Session {
+fn take(rt: &impl Print, session: Session, way: Way) -> io::Result<Session> {
     let left = lent_turn(session, way);
     if !same(left, turn_by_value(session, way)) {
-        output::write_text(b"a lent session and one by value differ\n");
-        return session;
+        output::write_text(rt, b"a lent session and one by value differ\n")?;
+        return Ok(session);
     }
-    write_left(left);
-    left.turn.session
+    write_left(rt, left)?;
+    Ok(left.turn.session)
 }
 
 fn usual(byte: u8, more: bool, size: usize) -> Way {
@@ -166,26 +162,27 @@ fn usual(byte: u8, more: bool, size: usize) -> Way {
 }
 
 // Every flag byte without K, turn after turn.
-fn every_byte(level: Level) -> Session {
+fn every_byte(rt: &impl Print, level: Level) -> io::Result<Session> {
     let mut session = Session::new(&data::NAME, level).session;
     let mut byte: u8 = 0;
     while byte < 0x20 {
-        session = take(session, usual(byte, false, 20));
+        session = take(rt, session, usual(byte, false, 20))?;
         byte += 1;
     }
-    session
+    Ok(session)
 }
 
-pub fn write() {
-    every_byte(Level::B256);
-    let session = every_byte(Level::B128);
+pub fn write(rt: &impl Print) -> io::Result<()> {
+    every_byte(rt, Level::B256)?;
+    let session = every_byte(rt, Level::B128)?;
     // the operation goes on with the event
-    let session = take(session, usual(0x02, true, 70));
+    let session = take(rt, session, usual(0x02, true, 70))?;
     // refused: K, not the last operation, a MAC too long, a ratchet too long, a buffer too short to save into
-    take(session, usual(0x22, false, 1));
-    take(session, usual(0x0e, true, 1));
-    take(session, usual(0x0d, false, 65));
+    take(rt, session, usual(0x22, false, 1))?;
+    take(rt, session, usual(0x0e, true, 1))?;
+    take(rt, session, usual(0x0d, false, 65))?;
     take(
+        rt,
         session,
         Way {
             byte: 0x0d,
@@ -194,6 +191,7 @@ pub fn write() {
             count: 65537,
             room: 205,
         },
-    );
-    take(Session::blank(), usual(0x0e, false, 5));
+    )?;
+    take(rt, Session::blank(), usual(0x0e, false, 5))?;
+    Ok(())
 }

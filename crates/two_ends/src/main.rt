@@ -2,7 +2,7 @@
 // docs/USING.md.
 #![tactic(auto)]
 
-use libc::STDOUT_FILENO;
+use std::io;
 use strobe::{Answer, Level, Session};
 
 fn office(key: &[u8]) -> Session {
@@ -18,35 +18,35 @@ fn send(session: Session, text: &mut [u8], mac: &mut [u8]) -> Session {
     signed.session
 }
 
-fn write_text(text: &[u8]) {
-    io::write_all(STDOUT_FILENO, text);
-    io::write_all(STDOUT_FILENO, b"\n");
+fn write_text(rt: &impl Print, text: &[u8]) -> io::Result<()> {
+    rt.write_all(text)?;
+    rt.write_all(b"\n")
 }
 
 // Decrypts the text in place, and shows it only if its MAC is the sender's.
-fn receive(session: Session, text: &mut [u8], mac: &[u8]) -> Session {
+fn receive(rt: &impl Print, session: Session, text: &mut [u8], mac: &[u8]) -> io::Result<Session> {
     let received = session.recv_enc(text, false);
     let checked = received.session.recv_mac(mac);
     let answer = checked.answer;
     let Answer::Done = answer else {
-        write_text(b"a wrong MAC");
-        return checked.session;
+        write_text(rt, b"a wrong MAC")?;
+        return Ok(checked.session);
     };
-    write_text(text);
-    checked.session
+    write_text(rt, text)?;
+    Ok(checked.session)
 }
 
 // What an office does with its session at the end of a day, and at the start of the next.
-fn overnight(session: Session) -> Session {
+fn overnight(rt: &impl Print, session: Session) -> io::Result<Session> {
     let mut form = [0u8; saved::SIZE];
     saved::save(session, &mut form);
     let morning = saved::load(&form);
     let answer = morning.answer;
     let Answer::Done = answer else {
-        write_text(b"there was no session to save");
-        return morning.session;
+        write_text(rt, b"there was no session to save")?;
+        return Ok(morning.session);
     };
-    morning.session
+    Ok(morning.session)
 }
 
 // A six-sided die, near enough for an example.
@@ -56,14 +56,14 @@ fn die(session: Session) -> u8 {
     bytes[0] % 6
 }
 
-fn main() {
+fn main(rt: HostRuntime) -> io::Result<()> {
     let mut text = *b"north 3, south 5";
     let mut mac = [0u8; 16];
     let here = send(office(b"a shared secret"), &mut text, &mut mac);
-    let there = receive(office(b"a shared secret"), &mut text, &mac);
-    if die(overnight(here)) == die(there) {
-        write_text(b"the dice agree");
+    let there = receive(&rt, office(b"a shared secret"), &mut text, &mac)?;
+    if die(overnight(&rt, here)?) == die(there) {
+        write_text(&rt, b"the dice agree")
     } else {
-        write_text(b"the dice differ");
+        write_text(&rt, b"the dice differ")
     }
 }
