@@ -3,6 +3,7 @@
 # bench/journal does for its first lines.
 me=${0##*/}
 out=target/bench
+archive=crates/bench/out # where rt leaves libbench.a, our side
 program=$out/$me
 release=(-C opt-level=3 -C codegen-units=1 -C panic=abort)
 
@@ -31,13 +32,16 @@ case "$(uname -m)" in
     *) fail "this machine is $(uname -m): only x86_64 and aarch64 are supported" ;;
 esac
 
+# rt builds the crate of the folder that it is called in.
+build_ours() { (cd crates/bench && rt lib); }
+
 # start TIMES: what has to be there, an empty folder, and our side
 start() {
     whole TIMES "$1"
     check_tools
     rm -rf "$out"
     mkdir -p "$out"
-    quietly "rt staticlib bench" rt staticlib bench
+    quietly "rt lib in crates/bench" build_ours
 }
 
 # keccak_field NAME: what the Cargo.toml of Debian's keccak says

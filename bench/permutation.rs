@@ -4,7 +4,7 @@
 
 mod c_library;
 
-// target/staticlib/libbench.a
+// crates/bench/out/libbench.a
 extern "C" {
     fn bench_permute(state: &mut [u8; 200]);
 }
