@@ -26,6 +26,7 @@ pub fn lower_digit(byte: u8) -> u8
 }
 
 // The number that a digit stands for, or 16 where the byte is no digit.
+#[tactic(auto, unfolding(crate::specs::Digits::value_of))]
 pub fn value(byte: u8) -> u8
     ensures { result ≡ value_of byte }
 {
