@@ -4,35 +4,46 @@
 
 mod line;
 
-use libc::{STDIN_FILENO, STDOUT_FILENO};
+use std::io::Read;
 
-// Answers one line, and says whether to go on. A read that fails counts as the end of the input.
-fn answer_line() -> bool {
+// Fills the line, or as much of it as there is input for, and gives how many bytes came. A read
+// that fails counts as the end of the input.
+fn read_line(input: &mut impl Read, line: &mut [u8; 401]) -> usize {
+    let mut done: usize = 0;
+    while done < line.len() {
+        let n = input.read(&mut line[done..]).unwrap_or(0);
+        if n == 0 {
+            break;
+        }
+        done += n;
+    }
+    done
+}
+
+// Answers one line, and says whether to go on.
+fn answer_line(rt: &impl Print, input: &mut impl Read) -> bool {
     let mut line = [0u8; 401];
-    let got = io::read_full(STDIN_FILENO, &mut line);
-    if got == 0 {
+    if read_line(input, &mut line) == 0 {
         return false;
     }
     // A cut line needs no test of its own: the zeros after it are neither digits nor a newline.
     let parsed = line::parse(&line);
     if !parsed.found {
-        io::write_all(
-            STDOUT_FILENO,
-            b"not a state: 400 lower-case hexadecimal digits and a newline\n",
-        );
+        let _ = rt.write_all(b"not a state: 400 lower-case hexadecimal digits and a newline\n");
         return false;
     }
     let state = parsed.state;
     let permuted = keccak::permute(state);
     let answer = line::spelled(&permuted);
-    io::write_all(STDOUT_FILENO, &answer)
+    rt.write_all(&answer).is_ok()
 }
 
-// A proved loop has to end, and nothing says that the input does. So the loop counts its turns
-// down, from a number that no run uses up.
-fn main() {
-    let mut turns = u64::MAX;
-    while turns > 0 && answer_line() {
-        turns -= 1;
+// Nothing says that the input ends, so the lines are counted, up to a number that no run uses up.
+fn main(rt: HostRuntime) {
+    let mut input = rt.reader();
+    for _ in 0..u64::MAX {
+        if !answer_line(&rt, &mut input) {
+            break;
+        }
     }
 }

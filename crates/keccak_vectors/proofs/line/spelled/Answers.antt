@@ -1,22 +1,14 @@
--- `spelled` meets its contract. The loop's invariant: the line has the digits of each byte passed, and its newline.
-use mathlib.Core.Path.{◌≡◌, refl, ◌∙◌}
+use mathlib.Core.Path.{◌≡◌, ◌∙◌}
 use mathlib.Core.List.{List}
-use Prim.Native.Nat.{ℕ, ◌+◌, ◌*◌, ◌/◌, ◌%◌, ◌≤◌, ◌<◌, ◌-◌}
+use Prim.Native.Nat.{ℕ, ◌+◌, ◌*◌, ◌/◌, ◌%◌, ◌<◌}
 use native.Mathlib.Omega.{arith}
 use borrow.Author.Rules.{rules}
-use borrow.Author.Count.{below_none, below_more}
+use borrow.Author.Count.{below_more}
 use lib.ListN.{length, get_or, set, length-set}
 use lib.Seq.{get_or-set_same, get_or-set_other}
 use Rattle.hex_digits.specs.Digits.{digit_of}
 use Rattle.keccak_vectors.specs.Line.{SpellsAt}
-use Rattle.keccak_vectors.proofs.line.spelled.Statement.{statement}
-use Rattle.keccak_vectors.proofs.line.spelled.Tie as tie
-
-abbrev invariant-loop : tie.invariant-loop
-invariant-loop state line₀ i₀ line i = (i ≤ 200) × (length line ≡ 401) × ((k : ℕ) → k < i → SpellsAt line state k) × (get_or line 400 0 ≡ 10)
-
-abbrev decreases-loop : tie.decreases-loop
-decreases-loop state line₀ i₀ line i = 200 - i
+use Rattle.keccak_vectors.proofs.line.spelled.Goals as goal
 
 -- x and y are stored for byte i: every other place is kept, so the line still has the digits of each earlier byte.
 -- It has those of byte i if x and y are they.
@@ -36,12 +28,12 @@ module _ (line state : List ℕ) (i x y : ℕ) where
     get_or-set_same (set line (2 * i) x) (2 * i + 1) y 0 (rw length-set h) ∙ q,
   )
 
-loop-again : tie.Need-loop-preserved invariant-loop decreases-loop
-loop-again c =
-    let l = c.before.before.before.before.before.loop in
-    let state = c.before.before.before.before.before.before.args.state.now in
-    let upper = c.before.before.upper-digit in
-    let lower = c.lower-digit in
+pub loop-i-preserved : goal.loop-i-preserved
+loop-i-preserved c =
+    let l = c.loop-i in
+    let state = c.args.state.now in
+    let upper = c.upper_digit in
+    let lower = c.lower_digit in
     let x = upper.result in
     let y = lower.result in (
       omega arith,
@@ -51,12 +43,5 @@ loop-again c =
       kept l.line state l.i x y 400 (λ e. omega arith) (λ e. omega arith) ∙ l.invariant.3,
     )
 
-returns : tie.Need-returns invariant-loop decreases-loop
-returns c = ((λ i h. c.before.loop.invariant.2 i (omega arith)), c.before.loop.invariant.3)
-
-pub spelled-spec : {M : Type 1} → statement M
-spelled-spec =
-    tie.close
-    (tie.spec invariant-loop decreases-loop (λ c. (omega arith, refl, below_none _, refl)) (λ c. search rules) (λ c. search rules) (λ c κs. search rules)
-    (λ c. search rules) (λ c. search rules) (λ c κs. search rules) (λ c. search rules) (λ c. search rules) (λ c. search rules) (λ c. search rules)
-    loop-again returns)
+pub returns : goal.returns
+returns c = ((λ i h. c.loop-i.invariant.2 i (omega arith)), c.loop-i.invariant.3)
