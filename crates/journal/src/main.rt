@@ -2,11 +2,10 @@
 #![tactic(auto)]
 
 ghost use Rattle.std.specs.Prelude.{◌≤◌, length};
-ghost use Rattle.io.specs.Counts.{IsPrefixLen};
 ghost use Rattle.frames.specs.Steps.{answer_limit};
 
 use frames::Journal;
-use libc::{STDIN_FILENO, STDOUT_FILENO};
+use std::io::Read;
 
 // The journal behind a read, and whether there is another.
 #[derive(Clone, Copy)]
@@ -16,28 +15,29 @@ struct Run {
 }
 
 // Writes the first `put` bytes of `out`. What is known of a failure goes to standard error.
-fn wrote(out: &[u8], put: usize) -> bool
-    requires { IsPrefixLen put out.now }
+fn wrote(rt: &(impl Print + Eprint), out: &[u8], put: usize) -> bool
+    requires { put ≤ length out.now }
 {
-    if io::write_all(STDOUT_FILENO, &out[..put]) {
-        return true;
+    match rt.write_all(&out[..put]) {
+        Ok(()) => true,
+        Err(e) => {
+            let _ = eprintln!(rt; "journal: standard output: {e}");
+            false
+        }
     }
-    os::fail(b"journal: standard output");
-    false
 }
 
 // Answers all of the input, and writes the answers.
-fn answered(journal: Journal, input: &[u8], out: &mut [u8]) -> Run
+fn answered(rt: &(impl Print + Eprint), journal: Journal, input: &[u8], out: &mut [u8]) -> Run
     requires { answer_limit ≤ length out.old }
 {
     let mut behind = journal;
     let mut at: usize = 0;
     while at < input.len() {
         let step = behind.step(&input[at..], out);
-        let next = step.journal;
-        behind = next;
+        behind = step.journal;
         at += step.taken;
-        if !wrote(out, step.put) {
+        if !wrote(rt, out, step.put) {
             return Run {
                 journal: behind,
                 on: false,
@@ -51,45 +51,49 @@ fn answered(journal: Journal, input: &[u8], out: &mut [u8]) -> Run
 }
 
 // One read. At the end of the input a last line without its newline is answered.
-fn turn(journal: Journal, input: &mut [u8], out: &mut [u8]) -> Run
+fn turn(
+    rt: &(impl Print + Eprint),
+    reader: &mut impl Read,
+    journal: Journal,
+    input: &mut [u8],
+    out: &mut [u8],
+) -> Run
     requires { answer_limit ≤ length out.old }
 {
-    let got = libc::read(STDIN_FILENO, input);
-    if got < 0 {
-        os::fail(b"journal: standard input");
-        return Run { journal, on: false };
+    match reader.read(input) {
+        Err(e) => {
+            let _ = eprintln!(rt; "journal: standard input: {e}");
+            Run { journal, on: false }
+        }
+        Ok(0) => {
+            let last = journal.finish(out);
+            wrote(rt, out, last.put);
+            Run {
+                journal: last.journal,
+                on: false,
+            }
+        }
+        Ok(n) => answered(rt, journal, &input[..n], out),
     }
-    if got == 0 {
-        let last = journal.finish(out);
-        let behind = last.journal;
-        wrote(out, last.put);
-        return Run {
-            journal: behind,
-            on: false,
-        };
-    }
-    let n = io::count(got, input);
-    answered(journal, &input[..n], out)
 }
 
-// Nothing says that the input ends, so the reads are counted down, from a number that no run uses up.
-fn reads(input: &mut [u8], out: &mut [u8])
+// Nothing says that the input ends, so the reads are counted, up to a number that no run uses up.
+fn reads(rt: &(impl Print + Eprint + Input), input: &mut [u8], out: &mut [u8])
     requires { answer_limit ≤ length out.old }
 {
+    let mut reader = rt.reader();
     let mut journal = Journal::new();
-    let mut on = true;
-    let mut left = u64::MAX;
-    while left > 0 && on {
-        let behind = turn(journal, input, out);
-        let next = behind.journal;
-        journal = next;
-        on = behind.on;
-        left -= 1;
+    for _ in 0..u64::MAX {
+        let behind = turn(rt, &mut reader, journal, input, out);
+        journal = behind.journal;
+        if !behind.on {
+            break;
+        }
     }
 }
 
-fn main() {
-    let mut input = io::large_buffer();
-    let mut out = io::large_buffer();
-    reads(&mut input, &mut out);
+fn main(rt: HostRuntime) {
+    let mut input = [0u8; 65536];
+    let mut out = [0u8; 65536];
+    reads(&rt, &mut input, &mut out);
 }
