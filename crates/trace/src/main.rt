@@ -14,8 +14,8 @@ ghost use Rattle.std.specs.Prelude.{◌+◌, ◌≤◌};
 ghost use Rattle.trace.specs.Bounds.{line_limit, out_size, reply_limit};
 
 use bounds::{LINE_LIMIT, OUT_SIZE, REPLY_LIMIT};
-use libc::{STDIN_FILENO, STDOUT_FILENO};
 use reply::Place;
+use std::io::Read;
 
 // Where a case stands, and how much of the line that is coming is in its buffer.
 #[derive(Clone, Copy)]
@@ -25,27 +25,33 @@ struct Run {
 }
 
 // Writes the first `put` bytes of `out`.
-fn write(out: &[u8; OUT_SIZE], put: usize)
+fn write(rt: &impl Print, out: &[u8; OUT_SIZE], put: usize)
     requires { put ≤ out_size }
 {
     let all = &out[..];
-    io::write_all(STDOUT_FILENO, &all[0..put]);
+    let _ = rt.write_all(&all[0..put]);
 }
 
 // Writes them where what is left has no room for another reply. Gives how many are still to be written.
-fn make_room(out: &[u8; OUT_SIZE], put: usize) -> usize
+fn make_room(rt: &impl Print, out: &[u8; OUT_SIZE], put: usize) -> usize
     requires { put ≤ out_size }
     ensures { result + reply_limit ≤ out_size }
 {
     if put <= OUT_SIZE - REPLY_LIMIT {
         return put;
     }
-    write(out, put);
+    write(rt, out, put);
     0
 }
 
 // Replies to all lines that end in the input. Nothing of the replies is held back.
-fn replied(run: Run, text: &mut [u8; LINE_LIMIT], input: &[u8], out: &mut [u8; OUT_SIZE]) -> Run
+fn replied(
+    rt: &impl Print,
+    run: Run,
+    text: &mut [u8; LINE_LIMIT],
+    input: &[u8],
+    out: &mut [u8; OUT_SIZE],
+) -> Run
     requires { run.count ≤ line_limit }
     ensures { result.count ≤ line_limit }
 {
@@ -58,7 +64,7 @@ fn replied(run: Run, text: &mut [u8; LINE_LIMIT], input: &[u8], out: &mut [u8; O
         at = taken.at;
         count = taken.count;
         if taken.ended {
-            put = make_room(out, put);
+            put = make_room(rt, out, put);
             let line = &text[..];
             let replied = reply::reply(place, &line[0..count], out, put);
             let next = replied.place;
@@ -67,42 +73,44 @@ fn replied(run: Run, text: &mut [u8; LINE_LIMIT], input: &[u8], out: &mut [u8; O
             count = 0;
         }
     }
-    write(out, put);
+    write(rt, out, put);
     Run { place, count }
 }
 
 // At the input's end a last line without its newline is replied to.
-fn finish(run: Run, text: &mut [u8; LINE_LIMIT], out: &mut [u8; OUT_SIZE])
+fn finish(rt: &impl Print, run: Run, text: &mut [u8; LINE_LIMIT], out: &mut [u8; OUT_SIZE])
     requires { run.count ≤ line_limit }
 {
     if run.count > 0 {
-        replied(run, text, b"\n", out);
+        replied(rt, run, text, b"\n", out);
     }
 }
 
-// Nothing says that the input ends, so the reads are counted down, from a number that no run uses up.
-fn reads(text: &mut [u8; LINE_LIMIT], input: &mut [u8], out: &mut [u8; OUT_SIZE]) {
+// Nothing says that the input ends, so the reads are counted, up to a number that no run uses up. A read that fails counts as the end.
+fn reads(
+    rt: &(impl Print + Input),
+    text: &mut [u8; LINE_LIMIT],
+    input: &mut [u8],
+    out: &mut [u8; OUT_SIZE],
+) {
+    let mut reader = rt.reader();
     let mut run = Run {
         place: reply::start(),
         count: 0,
     };
-    let mut left = u64::MAX;
-    while left > 0 {
-        let got = libc::read(STDIN_FILENO, input);
-        let n = io::count(got, input);
+    for _ in 0..u64::MAX {
+        let n = reader.read(input).unwrap_or(0);
         if n == 0 {
-            finish(run, text, out);
+            finish(rt, run, text, out);
             return;
         }
-        let next = replied(run, text, &input[..n], out);
-        run = next;
-        left -= 1;
+        run = replied(rt, run, text, &input[..n], out);
     }
 }
 
-fn main() {
+fn main(rt: HostRuntime) {
     let mut text = [0u8; LINE_LIMIT];
-    let mut input = io::large_buffer();
-    let mut out = io::large_buffer();
-    reads(&mut text, &mut input, &mut out);
+    let mut input = [0u8; 65536];
+    let mut out = [0u8; OUT_SIZE];
+    reads(&rt, &mut text, &mut input, &mut out);
 }
