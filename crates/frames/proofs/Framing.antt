@@ -2,12 +2,12 @@
 use Prim.Native.Nat.{ℕ, suc, ◌+◌, ◌*◌, ◌-◌, ◌≤◌, ◌<◌}
 use mathlib.Core.Path.{◌≡◌, refl, sym, ap, ◌∙◌}
 use mathlib.Core.List.{List, [], ◌∷◌, ◌++◌}
-use mathlib.Core.Bool.{Bool, true, false, not, cond, ◌&&◌}
+use mathlib.Core.Bool.{Bool, true, false, cond, ◌&&◌}
 use native.Mathlib.Omega.{arith}
 use lib.Dec.{eqb, leb}
 use lib.ListN.{length, take, drop, set, get_or, replicate, replicate-append-replicate}
 use lib.Seq.{length-take-le, take-add, take_at, drop_at, take-suc-set, drop-append-le, slice_empty, slice-cons, length-slice}
-use borrow.Author.Tests.{not-true, not-false, eq-eqb, ne_eqb, le-leb, lt-leb}
+use borrow.Author.Tests.{eq-eqb, ne_eqb, le-leb, lt-leb}
 use borrow.Rule.Slice.PartMut.{put_mid, post_of, mid_len, same_len_mid}
 use Rattle.strobe.specs.Answer.{number, done, bad_line}
 use Rattle.strobe.specs.Flags.{M, RATCHET, META_RATCHET, flags, has, operation}
@@ -78,8 +78,8 @@ module _ (b : List ℕ) (n k : ℕ) (six : n ≡ 6) (long : n ≤ length b) (cou
       let same : count_of (drop 2 (take n b)) ≡ k = rw six (sym count) in
       rw same (four_bytes_count (leb k limit))
 
-pub other_line_is_misshapen : (b : List ℕ) (l : Line) {t : Bool} → t ≡ whole_line l → not t ≡ true → read_of (part_of b l) ≡ misshapen
-other_line_is_misshapen b l {t} tested h = rw (sym tested ∙ not-true t h)
+pub other_line_is_misshapen : (b : List ℕ) (l : Line) {t : Bool} → t ≡ whole_line l → t ≡ false → read_of (part_of b l) ≡ misshapen
+other_line_is_misshapen b l tested h = rw (sym tested ∙ h)
 
 short_bytes_refused : (s : Session) (bs : List ℕ) → length bs < 2 → framed s (bytes bs) ≡ refused s
 unfolding framed
@@ -87,9 +87,9 @@ short_bytes_refused s [] h = refl
 short_bytes_refused s (f ∷ []) h = refl
 short_bytes_refused s (f ∷ more ∷ bs) h = absurd (omega arith)
 
-module _ (s : Session) (b : List ℕ) (l : Line) {t : Bool} (tested : t ≡ whole_line l) (passed : not t ≡ false) (long : l.count ≤ length b) where
+module _ (s : Session) (b : List ℕ) (l : Line) {t : Bool} (tested : t ≡ whole_line l) (passed : t ≡ true) (long : l.count ≤ length b) where
   reads_bytes : read_of (part_of b l) ≡ bytes (take l.count b)
-  reads_bytes = rw (sym tested ∙ not-false t passed)
+  reads_bytes = rw (sym tested ∙ passed)
 
   -- a first line
 

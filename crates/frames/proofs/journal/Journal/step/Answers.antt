@@ -7,23 +7,19 @@ use Rattle.frames.specs.Steps.{Part, line_limit, stepped, part_of}
 use Rattle.frames.specs.Inside.{Walks}
 use Rattle.frames.proofs.Reading.{fitted_same}
 use Rattle.frames.proofs.Walking.{walk_steps}
-use Rattle.frames.proofs.journal.Journal.step.Statement.{statement}
-use Rattle.frames.proofs.journal.Journal.step.Tie as tie
+use Rattle.frames.proofs.journal.Journal.step.Goals as goal
 
-walk-requires : tie.Need-walk-requires
-walk-requires c κs = (rw c.before.before.before.fitted.ensures (omega arith), search rules)
+pub walk-walked-requires : goal.walk-walked-requires
+walk-walked-requires c = (rw c.fitted-line.ensures (omega arith), search rules)
 
-returns : tie.Need-returns
+pub returns : goal.returns
 returns c =
-    let w = c.before.before.before.before.before.walk in
-    let f = c.before.before.before.before.before.before.before.before.before.fitted in
-    let z = c.before.before.before.before.before.before.before.before.before.before.before.before.before.args in
+    let w = c.walk-walked in
+    let f = c.fitted-line in
+    let z = c.args in
     let long : length z.self.buffer ≡ line_limit = search rules in
     walk_steps _ _ _ _ _
     (subst
     (λ (q : Part). Walks (stepped (record { stage = z.self.stage; session = z.self.session; part = q }) z.input.now (length z.out.now))
-    z.out.now w.result w.new.1.0 w.new.1.1.1.0)
+    z.out.now w.result w.new.buffer w.new.out)
     (ap (part_of z.self.buffer) f.ensures ∙ fitted_same z.self.buffer z.self.line long) w.ensures)
-
-pub step_spec : {M : Type 1} → statement M
-step_spec = tie.close (tie.spec (λ c κs. search rules) (λ c. search rules) walk-requires (λ c. search rules) returns)
