@@ -1,4 +1,5 @@
 -- `read` meets its contract: each way through the code is a case of the definition, and a stored byte is behind the others. Assumes nothing.
+use mathlib.Core.Bool.{true}
 use mathlib.Core.Path.{◌≡◌, sym, ap, ◌∙◌}
 use native.Mathlib.Omega.{arith}
 use lib.ListN.{length, take}
@@ -6,6 +7,7 @@ use lib.Seq.{length-take-le}
 use borrow.Author.Rules.{rules}
 use borrow.Author.Tests.{not-true, not-false}
 use Rattle.frames.specs.Inside.{even}
+use Rattle.frames.specs.Steps.{upper_read, part_of}
 use Rattle.frames.proofs.Reading.{bad_stays, no_digit_spoils, upper_waits, full_spoils, byte_grows, stored_behind}
 use Rattle.frames.proofs.line.read.Goals as goal
 
@@ -17,25 +19,31 @@ returns-then-value-gt15 c = rw c.spoilt.ensures (record { part = sym (no_digit_s
 
 pub returns-then-not-line-2 : goal.returns-then-not-line-2
 returns-then-not-line-2 c =
+    let a = c.args in
     record {
-      part = rw c.value-value.ensures (sym (upper_waits _ _ (not-false _ c.if-not-line.false) (omega arith) (not-true _ c.if-not-line-2.true)));
+      part =
+          ap (upper_read (part_of a.buffer.now a.line)) c.value-value.ensures
+          ∙ sym (upper_waits _ _ (not-false _ c.if-not-line.false) (omega arith) (not-true _ c.if-not-line-2.true));
       fits = search rules;
     }
 
 pub returns-then-count-eq-LINE_LIMIT : goal.returns-then-count-eq-LINE_LIMIT
 returns-then-count-eq-LINE_LIMIT c =
     let a = c.args in
+    let good : a.line.good ≡ true = not-false _ c.if-not-line.false in
+    let half : a.line.half ≡ true = not-false _ c.if-not-line-2.false in
     let size : length (take a.line.count a.buffer.now) ≡ a.line.count = length-take-le _ _ (omega arith) in
-    rw c.spoilt-then-count-eq-LINE_LIMIT.ensures
-    (record { part = sym (full_spoils _ _ (not-false _ c.if-not-line.false) (omega arith) (not-false _ c.if-not-line-2.false) (omega arith)); fits = search rules })
+    rw c.spoilt-then-count-eq-LINE_LIMIT.ensures (record { part = sym (full_spoils _ _ good (omega arith) half (omega arith)); fits = search rules })
 
 pub returns : goal.returns
 returns c =
     let a = c.args in
+    let good : a.line.good ≡ true = not-false _ c.if-not-line.false in
+    let half : a.line.half ≡ true = not-false _ c.if-not-line-2.false in
     let size : length (take a.line.count a.buffer.now) ≡ a.line.count = length-take-le _ _ (omega arith) in
     record {
       part =
           ap even (stored_behind a.buffer.now a.line.count _ (omega arith))
-          ∙ sym (byte_grows _ _ (not-false _ c.if-not-line.false) (omega arith) (not-false _ c.if-not-line-2.false) (omega arith) _ (rw ((not-false _ c.if-not-line-2.false), c.value-value.ensures)));
+          ∙ sym (byte_grows _ _ good (omega arith) half (omega arith) _ (rw (half, c.value-value.ensures)));
       fits = omega arith;
     }

@@ -22,7 +22,8 @@ loop-taken-smaller c =
     let l = c.loop-taken in
     let met = c.take-met in
     let enough : answer_limit ≤ length c.args.out.now - l.put = omega (arith, l.invariant.3) in
-    let moves = walk_moves _ _ _ _ _ l.line l.buffer _ l.taken l.put l.invariant.0 enough met.result _ met.ensures (not-false met.result.ended c.if-not-met.false) in
+    let ended = not-false met.result.ended c.if-not-met.false in
+    let moves = walk_moves _ _ _ _ _ l.line l.buffer _ l.taken l.put l.invariant.0 enough met.result _ met.ensures ended in
     omega (arith, moves, met.ensures.within)
 
 pub loop-taken-preserved : goal.loop-taken-preserved
@@ -31,9 +32,10 @@ loop-taken-preserved c =
     let met = c.take-met in
     let r = c.reply-replied in
     let enough : answer_limit ≤ length c.args.out.now - l.put = omega (arith, l.invariant.3) in
-    let long = r.auto.out ∙ l.invariant.3 in (
+    let long = r.auto.out ∙ l.invariant.3 in
+    let ended = not-false met.result.ended c.if-not-met.false in (
       rw c.empty-line.ensures
-          (walks_on _ _ _ _ _ l.line l.buffer l.out l.taken l.put l.invariant.0 enough met.result _ met.ensures (not-false met.result.ended c.if-not-met.false)
+          (walks_on _ _ _ _ _ l.line l.buffer l.out l.taken l.put l.invariant.0 enough met.result _ met.ensures ended
           r.result r.new.buffer r.new.out
           long
           r.ensures),
