@@ -3,7 +3,7 @@
 # bench/journal does for its first lines.
 me=${0##*/}
 out=target/bench
-archive=crates/bench/out # where rt leaves libbench.a, our side
+archive=$out # where libbench.a is, our side
 program=$out/$me
 release=(-C opt-level=3 -C codegen-units=1 -C panic=abort)
 
@@ -33,7 +33,7 @@ case "$(uname -m)" in
 esac
 
 # rt builds the crate of the folder that it is called in.
-build_ours() { (cd crates/bench && rt lib); }
+build_ours() { (cd crates/bench_c && rt lib) && cp crates/bench_c/out/libbench_c.a "$archive/libbench.a"; }
 
 # start TIMES: what has to be there, an empty folder, and our side
 start() {
@@ -41,7 +41,7 @@ start() {
     check_tools
     rm -rf "$out"
     mkdir -p "$out"
-    quietly "rt lib in crates/bench" build_ours
+    quietly "rt lib in crates/bench_c" build_ours
 }
 
 # keccak_field NAME: what the Cargo.toml of Debian's keccak says

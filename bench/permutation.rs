@@ -4,7 +4,7 @@
 
 mod c_library;
 
-// crates/bench/out/libbench.a
+// target/bench/libbench.a
 extern "C" {
     fn bench_permute(state: &mut [u8; 200]);
 }

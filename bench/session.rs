@@ -5,7 +5,7 @@
 
 mod c_library;
 
-// crates/bench/out/libbench.a. It gets a slice as a pointer and a length.
+// target/bench/libbench.a. It gets a slice as a pointer and a length.
 type Row = unsafe extern "C" fn(times: usize, buf: *mut u8, length: usize, out: *mut u8, out_length: usize);
 extern "C" {
     fn bench_ad(times: usize, buf: *mut u8, length: usize, out: *mut u8, out_length: usize);

@@ -1,7 +1,7 @@
 // What the benches count, exported so that a Rust program can call it: here the permutation, and in `session` the rows of the session bench.
 #![tactic(auto)]
 
-mod session;
+pub mod session;
 
 ghost use Rattle.std.specs.Prelude.{◌≡◌};
 ghost use Rattle.fips202.specs.Bytes.{keccak_f1600};

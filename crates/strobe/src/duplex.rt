@@ -41,6 +41,7 @@ fn least(a: usize, b: usize) -> usize
 }
 
 // One byte: an opening absorbs two of them.
+#[tactic(auto, unfolding(crate::specs::Duplex::step, crate::specs::Duplex::close_if_full))]
 pub fn absorb_byte(st: &mut [u8; 200], places: Positions, rate: usize, byte: u8) -> Positions
     requires { Room rate places.pos places.begin }
     ensures { duplex_of st.new result ≡ step (sponge rate) absorbing (duplex_of st.old places) byte }
