@@ -32,7 +32,7 @@ BY_HAND = {
     "iotaL": "iota_lanes",
     "roundL": "round_lanes",
     "roundsL": "rounds_lanes",
-    "roundsS": "rounds_complemented_lanes",
+    "roundsS": "rounds_on_strings",
 }
 WORD = re.compile(r"[^\s(){}\[\],;.«»◌`\"|]+")
 DECLARED = re.compile(r"^\s*((?:(?:abbrev|unfoldable|pub|data|record|rule|ruleset|opaque)\s+)*)([^\s:({},.]+)\s*(?:\{[^}]*\}\s*|\([^)]*\)\s*)*:")

@@ -1,4 +1,4 @@
-// What the benches count, exported so that a Rust program can call it: here the permutation, and in `session` the rows of the session bench.
+// What the benches count: here the permutation, and in `session` the rows of the session bench. The crate bench_c exports it all.
 #![tactic(auto)]
 
 pub mod session;

@@ -75,27 +75,27 @@ string_same w A B h =
 
 -- ---- an engine on single bits: each round reads a string and writes a string
 
-unfoldable pub rounds_complemented_lanes : ℕ → ℕ → List ℕ → List ℕ
-rounds_complemented_lanes l zero S = S
-rounds_complemented_lanes l (suc n) S = string_of (2 ^ l) (rnd l n (array_of (2 ^ l) (rounds_complemented_lanes l n S)))
+unfoldable pub rounds_on_strings : ℕ → ℕ → List ℕ → List ℕ
+rounds_on_strings l zero S = S
+rounds_on_strings l (suc n) S = string_of (2 ^ l) (rnd l n (array_of (2 ^ l) (rounds_on_strings l n S)))
 
-rounds_complemented_lanes_same : (l n : ℕ) (S : List ℕ) → Same (2 ^ l) (array_of (2 ^ l) (rounds_complemented_lanes l n S)) (rounds l 0 n (array_of (2 ^ l) S))
-unfolding rounds_complemented_lanes rounds
-rounds_complemented_lanes_same l zero S = same_refl (2 ^ l) (array_of (2 ^ l) S)
-rounds_complemented_lanes_same l (suc n) S =
+rounds_on_strings_same : (l n : ℕ) (S : List ℕ) → Same (2 ^ l) (array_of (2 ^ l) (rounds_on_strings l n S)) (rounds l 0 n (array_of (2 ^ l) S))
+unfolding rounds_on_strings rounds
+rounds_on_strings_same l zero S = same_refl (2 ^ l) (array_of (2 ^ l) S)
+rounds_on_strings_same l (suc n) S =
     let w = 2 ^ l in
-    let A = array_of w (rounds_complemented_lanes l n S) in
+    let A = array_of w (rounds_on_strings l n S) in
     rw (rounds_next l n (array_of w S))
     (same_trans w (array_of w (string_of w (rnd l n A))) (rnd l n A) (rnd l n (rounds l 0 n (array_of w S))) (array_string w (rnd l n A))
-    (rnd-same l n A (rounds l 0 n (array_of w S)) (rounds_complemented_lanes_same l n S)))
+    (rnd-same l n A (rounds l 0 n (array_of w S)) (rounds_on_strings_same l n S)))
 
-pub length_rounds_complemented_lanes : (l n : ℕ) (S : List ℕ) → length S ≡ 25 * 2 ^ l → length (rounds_complemented_lanes l n S) ≡ 25 * 2 ^ l
-unfolding rounds_complemented_lanes
-length_rounds_complemented_lanes l zero S h = h
-length_rounds_complemented_lanes l (suc n) S h = length_string (2 ^ l) (rnd l n (array_of (2 ^ l) (rounds_complemented_lanes l n S)))
+pub length_rounds_on_strings : (l n : ℕ) (S : List ℕ) → length S ≡ 25 * 2 ^ l → length (rounds_on_strings l n S) ≡ 25 * 2 ^ l
+unfolding rounds_on_strings
+length_rounds_on_strings l zero S h = h
+length_rounds_on_strings l (suc n) S h = length_string (2 ^ l) (rnd l n (array_of (2 ^ l) (rounds_on_strings l n S)))
 
-pub engine_rounds : (l n : ℕ) (S : List ℕ) → length S ≡ 25 * 2 ^ l → rounds_complemented_lanes l n S ≡ string_of (2 ^ l) (rounds l 0 n (array_of (2 ^ l) S))
-engine_rounds l n S h = string_of-array_of (2 ^ l) (rounds l 0 n (array_of (2 ^ l) S)) (rounds_complemented_lanes l n S) (length_rounds_complemented_lanes l n S h) (rounds_complemented_lanes_same l n S)
+pub engine_rounds : (l n : ℕ) (S : List ℕ) → length S ≡ 25 * 2 ^ l → rounds_on_strings l n S ≡ string_of (2 ^ l) (rounds l 0 n (array_of (2 ^ l) S))
+engine_rounds l n S h = string_of-array_of (2 ^ l) (rounds l 0 n (array_of (2 ^ l) S)) (rounds_on_strings l n S) (length_rounds_on_strings l n S h) (rounds_on_strings_same l n S)
 
 -- ---- KECCAK-f
 
@@ -107,7 +107,7 @@ keccak_f-rounds l S =
     ap (λ (i : ℕ). string_of (2 ^ l) (rounds l i (12 + 2 * l) (array_of (2 ^ l) S))) first
 
 -- the engine on single bits makes KECCAK-f
-pub keccak_f_engine : (l : ℕ) (S : List ℕ) → length S ≡ 25 * 2 ^ l → rounds_complemented_lanes l (12 + 2 * l) S ≡ keccak_f l S
+pub keccak_f_engine : (l : ℕ) (S : List ℕ) → length S ≡ 25 * 2 ^ l → rounds_on_strings l (12 + 2 * l) S ≡ keccak_f l S
 keccak_f_engine l S h = engine_rounds l (12 + 2 * l) S h ∙ sym (keccak_f-rounds l S)
 
 -- and so do the rounds on lanes: strings and lanes agree on every state
@@ -122,5 +122,5 @@ keccak_f-lanes l a f =
     (same_trans w (rounds l 0 n (array_of w S)) (rounds l 0 n A) (bits_of (rounds_lanes l n a)) (rounds-same l 0 n (array_of w S) A (array_string w A))
     (same_sym w (bits_of (rounds_lanes l n a)) (rounds l 0 n A) (rounds_bits l a f n)))
 
-pub engines_agree : (l : ℕ) (a : List ℕ) → Fits (2 ^ l) a → rounds_complemented_lanes l (12 + 2 * l) (string_of (2 ^ l) (bits_of a)) ≡ string_of (2 ^ l) (bits_of (rounds_lanes l (12 + 2 * l) a))
+pub engines_agree : (l : ℕ) (a : List ℕ) → Fits (2 ^ l) a → rounds_on_strings l (12 + 2 * l) (string_of (2 ^ l) (bits_of a)) ≡ string_of (2 ^ l) (bits_of (rounds_lanes l (12 + 2 * l) a))
 engines_agree l a f = keccak_f_engine l (string_of (2 ^ l) (bits_of a)) (length_string (2 ^ l) (bits_of a)) ∙ keccak_f-lanes l a f

@@ -10,7 +10,6 @@ use Rattle.saved.proofs.Forms.{fitting, not_fitting, fitting_loaded}
 use Rattle.saved.proofs.load_with.Goals as goal
 
 -- what was told of the head, told of the bytes
-
 fits_told : (bs : List ℕ) (last : ℕ) (head : Head) (t : Bool) → head ≡ head_in bs
     → t ≡ fits head.level head.pos head.begin head.direction last → fitting bs last ≡ t
 fits_told bs last head t e d = rw e at (sym d)

@@ -10,7 +10,6 @@ use Rattle.keccak.proofs.Chi.{marked_round, round_marked}
 use Rattle.keccak.proofs.round.round.Goals as goal
 
 -- `computed` compares code and `marked_round`, before the law is cited: the kernel takes longer over both at once
-
 pub returns : goal.returns
 returns c =
     let a = c.args.a in

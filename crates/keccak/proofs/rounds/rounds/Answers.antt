@@ -12,8 +12,7 @@ use Rattle.keccak.specs.Complemented.{complemented}
 use Rattle.keccak.proofs.Loops.{turns, turns_more, turns_join, round_at, round_all, constant_at}
 use Rattle.keccak.proofs.rounds.rounds.Goals as goal
 
--- the second `refl` of `loop-holds` computes that, once over the whole table. The inner loop's: `s` is `j` rounds further. Assumes nothing.
-
+-- the second `refl` computes that the table has the constants of rc(t), once over all of it
 pub loop-i-init : goal.loop-i-init
 unfolding turns add_last register rc
 loop-i-init c = (search rules, refl, refl)

@@ -1,4 +1,5 @@
--- `rounds` is the 24 rounds. The outer loop's invariant: `s` is what the first `2 i` rounds make, and the table has the constants of rc(t):
+-- `rounds` is the 24 rounds. The outer loop's invariant: `s` is what the first `2 i` rounds make, and the table has the constants of rc(t),
+-- which the answer `loop-i-init` computes. The inner loop's: `s` is `j` rounds further. Assumes nothing.
 use mathlib.Core.Path.{◌≡◌}
 use Prim.Native.Nat.{◌≤◌, ◌+◌, ◌-◌, ◌*◌}
 use Rattle.keccak.proofs.Loops.{turns, round_at, round_constants}
