@@ -1,11 +1,16 @@
 -- The state's bytes are copied out of a saved form and into it, and the byte behind them is set. Assumes nothing.
 use Prim.Native.Nat.{ℕ, ◌≤◌}
 use mathlib.Core.Path.{◌≡◌, refl, sym, ap, ap₂, ◌∙◌}
-use mathlib.Core.List.{List, [], ◌∷◌, ◌++◌, append_assoc}
+use mathlib.Core.List.{List, [], ◌∷◌, ◌++◌, append-nil, append_assoc}
 use native.Mathlib.Omega.{arith}
-use lib.ListN.{length, get_or, set, take, drop, length-set, length-append, length-drop}
-use lib.Seq.{length-take-le, drop-cons, set_at}
-use borrow.Rule.Slice.PartMut.{put_mid, Post-is}
+use lib.ListN.{length, get_or, set, take, drop, length-set, length-append, length-drop, drop_of_length-le}
+use lib.Seq.{length-take-le, take_all, drop-cons, set_at}
+use borrow.Rule.Slice.PartMut.{mid_of, put_mid, Post-is}
+
+-- a copy that fills its place leaves nothing of what was there
+pub copy_fills : (src dst : List ℕ) → length src ≡ length dst → take (length src) src ++ drop (length src) dst ≡ src
+copy_fills src dst e =
+    ap₂ (λ (x y : List ℕ). x ++ y) (take_all (length src) src (omega arith)) (drop_of_length-le dst {i = length src} (omega arith)) ∙ append-nil src
 
 -- ---- out
 
@@ -40,11 +45,11 @@ length_head b x₀ x₁ x₂ x₃ x₄ = simp length-set
 -- five bytes are set, and a copy of the state fills the part behind them
 pub form-written : (buf state copied : List ℕ) (x₀ x₁ x₂ x₃ x₄ : ℕ) → length state ≡ 200 → 205 ≤ length buf
     → let l = headed buf x₀ x₁ x₂ x₃ x₄ in
-    copied ≡ state
+    copied ≡ take (length state) state ++ drop (length state) (mid_of 5 200 l)
     → put_mid 5 200 l copied ≡ (x₀ ∷ x₁ ∷ x₂ ∷ x₃ ∷ x₄ ∷ state) ++ drop 205 buf
 form-written buf state copied x₀ x₁ x₂ x₃ x₄ n h e =
     let l = headed buf x₀ x₁ x₂ x₃ x₄ in
-    ap (put_mid 5 200 l) e
+    ap (put_mid 5 200 l) (e ∙ copy_fills state (mid_of 5 200 l) (n ∙ sym (state_length l (omega (arith, length_head buf x₀ x₁ x₂ x₃ x₄)))))
     ∙ ap₂ (λ (x y : List ℕ). x ++ (state ++ y)) (take_head buf x₀ x₁ x₂ x₃ x₄ (omega arith)) (Post-is 5 205 l (omega arith) ∙ drop_head buf x₀ x₁ x₂ x₃ x₄ (omega arith))
 
 -- then the byte behind it
