@@ -34,6 +34,8 @@ BY_HAND = {
     "roundsL": "rounds_lanes",
     "roundsS": "rounds_on_strings",
 }
+# a parameter of modules, which nothing declares by a signature
+VARIABLES = {"keepsAll": "keeps_all"}
 WORD = re.compile(r"[^\s(){}\[\],;.«»◌`\"|]+")
 DECLARED = re.compile(r"^\s*((?:(?:abbrev|unfoldable|pub|data|record|rule|ruleset|opaque)\s+)*)([^\s:({},.]+)\s*(?:\{[^}]*\}\s*|\([^)]*\)\s*)*:")
 CODE = re.compile(r"(--.*$|//.*$|\"[^\"\n]*\")", re.M)
@@ -117,6 +119,7 @@ def main():
             new = turned(name, functions)
         if new != name:
             table[name] = new
+    table.update(VARIABLES)
     if "--list" in sys.argv:
         for name, new in sorted(table.items()):
             print(name, new, sep="\t")
