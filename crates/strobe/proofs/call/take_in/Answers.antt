@@ -5,10 +5,8 @@ use Rattle.strobe.proofs.call.take_in.Goals as goal
 
 pub returns-then-has : goal.returns-then-has
 returns-then-has c =
-    let z = c in
-    rw (takers_rule z.args.flags z.requires.1, sym c.has.ensures ∙ c.if-has.true) c.overwrite.ensures
+    rw (takers_rule c.args.flags c.requires.1, sym c.has.ensures ∙ c.if-has.true) c.overwrite.ensures
 
 pub returns-else-has : goal.returns-else-has
 returns-else-has c =
-    let z = c in
-    rw (takers_rule z.args.flags z.requires.1, sym c.has.ensures ∙ c.if-has.false) c.absorb.ensures
+    rw (takers_rule c.args.flags c.requires.1, sym c.has.ensures ∙ c.if-has.false) c.absorb.ensures

@@ -8,22 +8,19 @@ use Rattle.strobe.proofs.opening.begin_op.Goals as goal
 
 pub absorb_byte-twice-requires : goal.absorb_byte-twice-requires
 absorb_byte-twice-requires c =
-    let z = c in
-    let sp = sponge z.args.rate in
-    room_of sp _ _ c.absorb_byte-once.ensures (step_room sp absorbing _ _ (begun_room z.requires.0 z.requires.2))
+    let sp = sponge c.args.rate in
+    room_of sp _ _ c.absorb_byte-once.ensures (step_room sp absorbing _ _ (begun_room c.requires.0 c.requires.2))
 
 pub forced-requires : goal.forced-requires
 forced-requires c =
-    let z = c in
-    let sp = sponge z.args.rate in
+    let sp = sponge c.args.rate in
     room_of sp _ _ c.absorb_byte-twice.ensures
     (step_room sp absorbing _ _
-    (room_of sp _ _ c.absorb_byte-once.ensures (step_room sp absorbing _ _ (begun_room z.requires.0 z.requires.2))))
+    (room_of sp _ _ c.absorb_byte-once.ensures (step_room sp absorbing _ _ (begun_room c.requires.0 c.requires.2))))
 
 pub returns : goal.returns
 returns c =
-    let z = c in
-    two_bytes_open (sponge z.args.rate) z.args.direction z.args.flags (duplex_of z.args.st.now z.args.places) _ _ _ _
+    two_bytes_open (sponge c.args.rate) c.args.direction c.args.flags (duplex_of c.args.st.now c.args.places) _ _ _ _
     c.absorb_byte-once.ensures
     c.mixed.ensures
     c.absorb_byte-twice.ensures

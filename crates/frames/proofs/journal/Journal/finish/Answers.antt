@@ -9,11 +9,10 @@ use Rattle.frames.proofs.journal.Journal.finish.Goals as goal
 
 pub returns-then-begun : goal.returns-then-begun
 returns-then-begun c =
-    let b = c in
     let z = c.args in
     let long : length z.self.buffer ≡ line_limit = search rules in
     rw (finished_line (place_of z.self) (length z.out.now)
-    (sym (begun-same z.self.buffer z.self.line long) ∙ sym b.begun.ensures ∙ c.if-begun.true))
+    (sym (begun-same z.self.buffer z.self.line long) ∙ sym c.begun.ensures ∙ c.if-begun.true))
     c.step.ensures
 
 pub returns-else-begun : goal.returns-else-begun

@@ -12,49 +12,41 @@ loop-buf-init c = (cut_start _ _ _ _ _ _, refl, c.piece_size-step.ensures)
 
 pub returns-then-refuses : goal.returns-then-refuses
 returns-then-refuses c =
-    let l = c in
-    let z = c in
-    let sp = sponge_of z.args.self.level in
-    let step = l.piece_size-step.result in
-    let h = (rw l.loop-buf.invariant.1 at c.call-piece.ensures) in
-    comes_whole z.args.self.level sp _ _ z.args.size _ _ _ _ _ _ _ l.loop-buf.invariant.2 h
-    (cut_refused sp z.args.flags step (seen z.args.self) z.args.more z.args.buf.now
-    (seen l.loop-buf.session) l.loop-buf.on l.loop-buf.buf l.loop-buf.a l.loop-buf.invariant.0
-    (cut_size z.args.size (length z.args.buf.now) step _ l.loop-buf.invariant.2 c.loop-buf-test.true (omega (arith, l.loop-buf.invariant.0.long))) c.loop-buf-test.true (l.loop-buf.a + step - l.loop-buf.a) (omega arith)
+    let sp = sponge_of c.args.self.level in
+    let step = c.piece_size-step.result in
+    let h = (rw c.loop-buf.invariant.1 at c.call-piece.ensures) in
+    comes_whole c.args.self.level sp _ _ c.args.size _ _ _ _ _ _ _ c.loop-buf.invariant.2 h
+    (cut_refused sp c.args.flags step (seen c.args.self) c.args.more c.args.buf.now
+    (seen c.loop-buf.session) c.loop-buf.on c.loop-buf.buf c.loop-buf.a c.loop-buf.invariant.0
+    (cut_size c.args.size (length c.args.buf.now) step _ c.loop-buf.invariant.2 c.loop-buf-test.true (omega (arith, c.loop-buf.invariant.0.long))) c.loop-buf-test.true (c.loop-buf.a + step - c.loop-buf.a) (omega arith)
     _ h.outcome.answer _ c.refuses.ensures c.if-refuses.true _ h.lent)
 
 pub loop-buf-smaller : goal.loop-buf-smaller
 loop-buf-smaller c =
-    let l = c in
-    let z = c in
-    let step = l.piece_size-step.result in
-    let some : 0 < step = cut_size z.args.size (length z.args.buf.now) step _ l.loop-buf.invariant.2 c.loop-buf-test.true (omega (arith, l.loop-buf.invariant.0.long)) in
-    omega (arith, l.loop-buf.invariant.0.long, c.loop-buf-test.true)
+    let step = c.piece_size-step.result in
+    let some : 0 < step = cut_size c.args.size (length c.args.buf.now) step _ c.loop-buf.invariant.2 c.loop-buf-test.true (omega (arith, c.loop-buf.invariant.0.long)) in
+    omega (arith, c.loop-buf.invariant.0.long, c.loop-buf-test.true)
 
 pub loop-buf-preserved : goal.loop-buf-preserved
 loop-buf-preserved c =
-    let l = c in
-    let z = c in
-    let sp = sponge_of z.args.self.level in
-    let step = l.piece_size-step.result in
-    let h = (rw l.loop-buf.invariant.1 at c.call-piece.ensures) in (
-      cut_turn sp z.args.flags step (seen z.args.self) z.args.more z.args.buf.now
-          (seen l.loop-buf.session) l.loop-buf.on l.loop-buf.buf l.loop-buf.a l.loop-buf.invariant.0
-          (cut_size z.args.size (length z.args.buf.now) step _ l.loop-buf.invariant.2 c.loop-buf-test.true (omega (arith, l.loop-buf.invariant.0.long))) c.loop-buf-test.true (l.loop-buf.a + step - l.loop-buf.a) (omega arith)
+    let sp = sponge_of c.args.self.level in
+    let step = c.piece_size-step.result in
+    let h = (rw c.loop-buf.invariant.1 at c.call-piece.ensures) in (
+      cut_turn sp c.args.flags step (seen c.args.self) c.args.more c.args.buf.now
+          (seen c.loop-buf.session) c.loop-buf.on c.loop-buf.buf c.loop-buf.a c.loop-buf.invariant.0
+          (cut_size c.args.size (length c.args.buf.now) step _ c.loop-buf.invariant.2 c.loop-buf-test.true (omega (arith, c.loop-buf.invariant.0.long))) c.loop-buf-test.true (c.loop-buf.a + step - c.loop-buf.a) (omega arith)
           _ h.outcome.answer _ c.refuses.ensures c.if-refuses.false
           _ (ap seen h.outcome.session) _ h.lent _ refl,
       ap (λ (s : Session). s.level) h.outcome.session,
-      l.loop-buf.invariant.2,
+      c.loop-buf.invariant.2,
     )
 
 pub returns : goal.returns
 returns c =
-    let l = c in
-    let z = c in
-    let sp = sponge_of z.args.self.level in
-    let step = l.piece_size-step.result in
-    let h = (rw l.loop-buf.invariant.1 at c.call.ensures) in
-    comes_whole z.args.self.level sp _ _ z.args.size _ _ _ _ _ _ _ l.loop-buf.invariant.2 h
-    (cut_last sp z.args.flags step (seen z.args.self) z.args.more z.args.buf.now
-    (seen l.loop-buf.session) l.loop-buf.on l.loop-buf.buf l.loop-buf.a l.loop-buf.invariant.0
-    c.loop-buf-test.false (length l.loop-buf.buf - l.loop-buf.a) refl _ h.lent)
+    let sp = sponge_of c.args.self.level in
+    let step = c.piece_size-step.result in
+    let h = (rw c.loop-buf.invariant.1 at c.call.ensures) in
+    comes_whole c.args.self.level sp _ _ c.args.size _ _ _ _ _ _ _ c.loop-buf.invariant.2 h
+    (cut_last sp c.args.flags step (seen c.args.self) c.args.more c.args.buf.now
+    (seen c.loop-buf.session) c.loop-buf.on c.loop-buf.buf c.loop-buf.a c.loop-buf.invariant.0
+    c.loop-buf-test.false (length c.loop-buf.buf - c.loop-buf.a) refl _ h.lent)
