@@ -13,7 +13,7 @@ use Rattle.strobe.specs.Session.{rate_of, seen, given, blank}
 use Rattle.strobe.specs.Strobe.{well_formed}
 use Rattle.strobe.specs.declared.answer.Answer.TheVariants.{Done, NotASession, ShortBuffer}
 use Rattle.strobe.specs.declared.session.Session.{Session}
-use Rattle.saved.specs.Saved.{Edition, edition1, edition2, size_of, newest, form, byte_at, is_numbered, is_edition, fits, session_in, loaded_with, last_in, loaded, saving, Saves}
+use Rattle.saved.specs.Saved.{Edition, edition1, edition2, number_of, size_of, newest, form, byte_at, is_numbered, is_edition, fits, session_in, loaded_with, last_in, loaded, saving, Saves}
 
 -- ---- a load
 
@@ -21,10 +21,14 @@ pub size_least : (e : Edition) → size_of edition1 ≤ size_of e
 size_least edition1 = omega arith
 size_least edition2 = omega arith
 
+-- so many bytes with a number in front are so many
+pub numbered_length : (number size : ℕ) (bs : List ℕ) → is_numbered number size bs ≡ true → length bs ≡ size
+unfolding is_numbered
+numbered_length number size bs h = eqb-true (length bs) size (and_left (eqb (length bs) size) _ h)
+
 -- the bytes of an edition have its length
 pub edition_length : (e : Edition) (bs : List ℕ) → is_edition e bs ≡ true → length bs ≡ size_of e
-unfolding is_numbered
-edition_length e bs h = eqb-true (length bs) (size_of e) (and_left (eqb (length bs) (size_of e)) _ h)
+edition_length e bs h = numbered_length (number_of e) (size_of e) bs h
 
 -- so the editions keep apart
 pub loaded_in : (e : Edition) (bs : List ℕ) → is_edition e bs ≡ true → loaded bs ≡ loaded_with bs (last_in e bs)
