@@ -3,7 +3,6 @@
 # bench/journal does for its first lines.
 me=${0##*/}
 out=target/bench
-archive=$out # where libbench.a is, our side
 program=$out/$me
 release=(-C opt-level=3 -C codegen-units=1 -C panic=abort)
 
@@ -32,8 +31,8 @@ case "$(uname -m)" in
     *) fail "this machine is $(uname -m): only x86_64 and aarch64 are supported" ;;
 esac
 
-# rt builds the crate of the folder that it is called in.
-build_ours() { (cd crates/bench_c && rt lib) && cp crates/bench_c/out/libbench_c.a "$archive/libbench.a"; }
+# Our side, as libbench.a. rt builds the crate of the folder that it is called in.
+build_ours() { (cd crates/bench_c && rt lib) && cp crates/bench_c/out/libbench_c.a "$out/libbench.a"; }
 
 # start TIMES: what has to be there, an empty folder, and our side
 start() {

@@ -40,7 +40,7 @@ build_program() {
     mapfile -t libraries < <(compgen -G 'target/bench/lib*.rlib')
     compile "$@" --emit obj -o "$built.o" \
         && "$tools/ld.lld" -pie -z now --gc-sections --unresolved-symbols=ignore-in-shared-libs -dynamic-linker "$loader" -o "$built" \
-            "$libc/Scrt1.o" "$libc/crti.o" "$built.o" "$archive/libbench.a" "${libraries[@]}" \
+            "$libc/Scrt1.o" "$libc/crti.o" "$built.o" "$out/libbench.a" "${libraries[@]}" \
             "$rust_x86_64"/libcore-*.rlib "$rust_x86_64"/libcompiler_builtins-*.rlib \
             "$libc/libc.so.6" "$libc/libc_nonshared.a" "$libc/crtn.o"
 }

@@ -24,7 +24,7 @@ compile() { rustc "$@"; }
 build_program() {
     local built=$1
     shift
-    compile "$@" -L "native=$archive" -l static=bench -l c -o "$built"
+    compile "$@" -L "native=$out" -l static=bench -l c -o "$built"
 }
 
 run() { "$@"; }

@@ -6,8 +6,7 @@ pub mod session;
 ghost use Rattle.std.specs.Prelude.{◌≡◌};
 ghost use Rattle.fips202.specs.Bytes.{keccak_f1600};
 
-#[unsafe(no_mangle)]
-pub extern "C" fn bench_permute(state: &mut [u8; 200])
+pub fn bench_permute(state: &mut [u8; 200])
     ensures { state.new ≡ keccak_f1600 state.old }
 {
     let permuted = keccak::permute(*state);

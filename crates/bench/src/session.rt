@@ -4,8 +4,7 @@ ghost use Rattle.strobe.specs.Flags.{AD, SEND_ENC, PRF};
 
 use strobe::{Level, Session};
 
-#[unsafe(no_mangle)]
-pub extern "C" fn bench_ad(times: usize, buf: &[u8], out: &mut [u8])
+pub fn bench_ad(times: usize, buf: &[u8], out: &mut [u8])
     ensures { Row AD times buf.now out.old buf.now out.new }
 {
     let mut session = Session::new(b"bench", Level::B128).session;
@@ -17,8 +16,7 @@ pub extern "C" fn bench_ad(times: usize, buf: &[u8], out: &mut [u8])
     session.prf(out, false);
 }
 
-#[unsafe(no_mangle)]
-pub extern "C" fn bench_send_enc(times: usize, buf: &mut [u8], out: &mut [u8])
+pub fn bench_send_enc(times: usize, buf: &mut [u8], out: &mut [u8])
     ensures { Row SEND_ENC times buf.old out.old buf.new out.new }
 {
     let mut session = Session::new(b"bench", Level::B128).session;
@@ -30,8 +28,7 @@ pub extern "C" fn bench_send_enc(times: usize, buf: &mut [u8], out: &mut [u8])
     session.prf(out, false);
 }
 
-#[unsafe(no_mangle)]
-pub extern "C" fn bench_prf(times: usize, buf: &mut [u8], out: &mut [u8])
+pub fn bench_prf(times: usize, buf: &mut [u8], out: &mut [u8])
     ensures { Row PRF times buf.old out.old buf.new out.new }
 {
     let mut session = Session::new(b"bench", Level::B128).session;

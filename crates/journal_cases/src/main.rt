@@ -115,7 +115,7 @@ fn show_both(rt: &(impl Files + Print + Eprint), name: &str) {
     }
 }
 
-// One argument, and whether there is another. std opens a file by a name that is text, and a name too long for the buffer is none.
+// One argument, and whether there is one. std opens a file by a name that is text, and a name too long for the buffer is none.
 fn argument(rt: &(impl Env + Files + Print + Eprint), i: usize) -> bool {
     let mut name = [0u8; 64];
     let n = match rt.arg(i, &mut name) {
