@@ -1,5 +1,5 @@
 -- Lower-case hexadecimal digits in ASCII: the digit of a number, and the number of a digit. Assumes nothing.
-use Rattle.std.specs.Prelude.{cond, ◌&&◌, ℕ, ◌+◌, ◌-◌, ◌*◌, ◌/◌, leb}
+use Rattle.std.specs.Prelude.{Option, None, Some, cond, ◌&&◌, ℕ, ◌+◌, ◌-◌, ◌*◌, ◌/◌, leb, ltb}
 
 -- `0` is 48, and `a`, the digit of ten, stands 39 places after 48 + 10
 abbrev pub digit_of : ℕ → ℕ
@@ -11,3 +11,11 @@ value_of byte =
     cond (leb 48 byte && leb byte 57) (byte - 48)
     (cond (leb 97 byte && leb byte 102) (byte - 87)
     16)
+
+-- the number, of a digit alone
+abbrev pub digit_value : ℕ → Option ℕ
+digit_value byte = cond (ltb (value_of byte) 16) (Some (value_of byte)) None
+
+-- the number of two digits, the upper half first
+abbrev pub pair_value : ℕ → ℕ → Option ℕ
+pair_value upper lower = cond (ltb (value_of upper) 16 && ltb (value_of lower) 16) (Some (value_of upper * 16 + value_of lower)) None

@@ -1,8 +1,8 @@
 // Lower-case hexadecimal digits: the two of a byte, and the number of one.
 #![tactic(auto)]
 
-ghost use Rattle.std.specs.Prelude.{◌≡◌, ◌/◌, ◌%◌, ◌<◌};
-ghost use Rattle.hex_digits.specs.Digits.{digit_of, value_of};
+ghost use Rattle.std.specs.Prelude.{◌≡◌, [], ◌∷◌, ◌/◌, ◌%◌, ◌<◌};
+ghost use Rattle.hex_digits.specs.Digits.{digit_of, digit_value, pair_value};
 
 // The digit of a number below 16.
 fn digit(n: u8) -> u8
@@ -25,14 +25,28 @@ pub fn lower_digit(byte: u8) -> u8
     digit(byte % 16)
 }
 
-// The number that a digit stands for, or 16 where the byte is no digit.
-#[tactic(auto, unfolding(crate::specs::Digits::value_of))]
-pub fn value(byte: u8) -> u8
-    ensures { result ≡ value_of byte }
+// Both digits of a byte.
+pub fn of(byte: u8) -> [u8; 2]
+    ensures { result ≡ digit_of (byte / 16) ∷ digit_of (byte % 16) ∷ [] }
 {
-    match byte {
-        b'0'..=b'9' => byte - b'0',
-        b'a'..=b'f' => byte - b'a' + 10,
-        _ => 16,
+    [upper_digit(byte), lower_digit(byte)]
+}
+
+// The number that a digit stands for.
+#[tactic(auto, unfolding(crate::specs::Digits::value_of))]
+pub fn value(digit: u8) -> Option<u8>
+    ensures { result ≡ digit_value digit }
+{
+    match digit {
+        b'0'..=b'9' => Some(digit - b'0'),
+        b'a'..=b'f' => Some(digit - b'a' + 10),
+        _ => None,
     }
+}
+
+// The byte that two digits stand for.
+pub fn byte(upper: u8, lower: u8) -> Option<u8>
+    ensures { result ≡ pair_value upper lower }
+{
+    Some(value(upper)? * 16 + value(lower)?)
 }
