@@ -4,7 +4,7 @@ ghost use Rattle.strobe.specs.Strobe.{directed, disagrees, mixed};
 
 use crate::flags::Flags;
 
-#[derive(Clone, Copy)]
+#[derive(Clone, Copy, PartialEq, Eq)]
 pub enum Direction {
     Neither,
     Sender,

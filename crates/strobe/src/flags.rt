@@ -3,7 +3,7 @@ ghost use Rattle.std.specs.Prelude.{◌≡◌};
 ghost use Rattle.strobe.specs.Flags.{has, operation, known, is_recv_mac, over_limit};
 
 // A type of its own, so that it can't be taken for a count or a position.
-#[derive(Clone, Copy)]
+#[derive(Clone, Copy, PartialEq, Eq)]
 pub struct Flags(pub u8);
 
 impl Flags {
@@ -99,7 +99,7 @@ impl Flags {
 }
 
 // What the twenty do, meta or not. `Unknown` is a byte that is none of them.
-#[derive(Clone, Copy)]
+#[derive(Clone, Copy, PartialEq, Eq)]
 pub enum Operation {
     Ad,
     Ratchet,

@@ -4,7 +4,7 @@ ghost use Rattle.strobe.specs.Strobe.{known_last, is_last};
 
 use crate::flags::Flags;
 
-#[derive(Clone, Copy)]
+#[derive(Clone, Copy, PartialEq, Eq)]
 pub enum Last {
     Nothing,
     Op(Flags),

@@ -9,7 +9,7 @@ use crate::flags::Flags;
 use crate::last::Last;
 use crate::level::Level;
 
-#[derive(Clone, Copy)]
+#[derive(Clone, Copy, PartialEq, Eq)]
 pub struct Session {
     pub state: [u8; 200],
     pub level: Level,
@@ -20,7 +20,7 @@ pub struct Session {
 }
 
 // What a creation, a load and every call give back.
-#[derive(Clone, Copy)]
+#[derive(Clone, Copy, PartialEq, Eq)]
 pub struct Outcome {
     pub session: Session,
     pub answer: Answer,
