@@ -1,5 +1,5 @@
 -- Lower-case hexadecimal digits in ASCII: the digit of a number, and the number of a digit. Assumes nothing.
-use Rattle.std.specs.Prelude.{Option, None, Some, cond, ◌&&◌, ℕ, ◌+◌, ◌-◌, ◌*◌, ◌/◌, leb, ltb}
+use Rattle.std.specs.Prelude.{List, [], ◌∷◌, Option, None, Some, cond, ◌&&◌, ℕ, ◌+◌, ◌-◌, ◌*◌, ◌/◌, ◌%◌, leb, ltb}
 
 -- `0` is 48, and `a`, the digit of ten, stands 39 places after 48 + 10
 abbrev pub digit_of : ℕ → ℕ
@@ -19,3 +19,8 @@ digit_value byte = cond (ltb (value_of byte) 16) (Some (value_of byte)) None
 -- the number of two digits, the upper half first
 abbrev pub pair_value : ℕ → ℕ → Option ℕ
 pair_value upper lower = cond (ltb (value_of upper) 16 && ltb (value_of lower) 16) (Some (value_of upper * 16 + value_of lower)) None
+
+-- the digits of bytes, two for each
+abbrev pub digits_of : List ℕ → List ℕ
+digits_of [] = []
+digits_of (b ∷ bs) = digit_of (b / 16) ∷ digit_of (b % 16) ∷ digits_of bs

@@ -1,8 +1,12 @@
-// Lower-case hexadecimal digits: the two of a byte, and the number of one.
+// Lower-case hexadecimal digits: the two of a byte, the number of one, and bytes as text.
 #![tactic(auto)]
+
+mod text;
 
 ghost use Rattle.std.specs.Prelude.{◌≡◌, [], ◌∷◌, ◌/◌, ◌%◌, ◌<◌};
 ghost use Rattle.hex_digits.specs.Digits.{digit_of, digit_value, pair_value};
+
+pub use text::Hex;
 
 // The digit of a number below 16.
 fn digit(n: u8) -> u8
