@@ -4,11 +4,12 @@ use mathlib.Core.Path.{◌≡◌, refl, sym, ap, ap₂, ◌∙◌}
 use mathlib.Core.List.{List, [], ◌∷◌}
 use mathlib.Core.Bool.{Bool}
 use lib.ListN.{get_or}
+use Rattle.std.specs.Prelude.{Result}
 use Rattle.laws.proofs.Promise.{one_answer}
 use Rattle.strobe.specs.Answer.{number, refuses}
 use Rattle.strobe.specs.Flags.{has, operation}
 use Rattle.strobe.specs.Pieces.{call_in_pieces}
-use Rattle.strobe.specs.Session.{rate_of, sponge_of, seen, Given, fresh_at, blank, created, version_text, Is, Comes, Calls}
+use Rattle.strobe.specs.Session.{rate_of, sponge_of, seen, Given, fresh_at, blank, created, LevelNumber, version_text, Is, Comes, Calls}
 use Rattle.strobe.specs.Strobe.{Effect, known_last, well_formed}
 use Rattle.strobe.specs.declared.answer.Answer.{Answer}
 use Rattle.strobe.specs.declared.answer.Answer.TheVariants.{Done, KeyFlag, NoOperation, NotTheLast, CutMac, TooLong, NoLevel, NotASession, MacUnequal, BadSaved, ShortBuffer}
@@ -56,6 +57,9 @@ comes_one l e i j = (is_one _ i.outcome j.outcome, one_answer i.lent j.lent)
 
 pub new_one_answer : (l : Level) (proto : List ℕ) {r q : Outcome} → Is (fresh_at l proto) r → Is (fresh_at l proto) q → r ≡ q
 new_one_answer l proto = is_one (fresh_at l proto)
+
+pub level_one_answer : (n : ℕ) {r q : Result Level Answer} → LevelNumber n r → LevelNumber n q → r ≡ q
+level_one_answer n p q = one_answer p q
 
 pub create_one_answer : (proto : List ℕ) (n : ℕ) {r q : Outcome} → Is (created proto n) r → Is (created proto n) q → r ≡ q
 create_one_answer proto n = is_one (created proto n)

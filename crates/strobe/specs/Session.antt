@@ -1,10 +1,12 @@
 -- Sessions over Keccak-f[1600], as the code holds them: the two levels, the blank, creation by number, the version text (docs/RULES.md, sections 2, 7 and 9),
 -- and what the public functions promise.
-use Rattle.std.specs.Prelude.{Bool, cond, List, [], ◌∷◌, ◌++◌, ◌≡◌, ℕ, eqb, replicate}
+use Rattle.std.specs.Prelude.{Bool, cond, Result, Ok, Err, List, [], ◌∷◌, ◌++◌, ◌≡◌, ℕ, eqb, replicate}
 use Rattle.fips202.specs.Bytes.{keccak_f1600}
 use Rattle.strobe.specs.Answer.{number, done, no_level}
 use Rattle.strobe.specs.Duplex.{Sponge}
 use Rattle.strobe.specs.Strobe.{Strobe, Effect, call, fresh}
+use Rattle.strobe.specs.declared.answer.Answer.{Answer}
+use Rattle.strobe.specs.declared.answer.Answer.TheVariants.{NoLevel}
 use Rattle.strobe.specs.declared.flags.Flags.{Flags}
 use Rattle.strobe.specs.declared.level.Level.{Level}
 use Rattle.strobe.specs.declared.level.Level.TheVariants.{B128, B256}
@@ -63,6 +65,10 @@ fresh_at l name = given done (held l (fresh (sponge_of l) name))
 abbrev pub blank : Session
 blank =
     record { state = replicate 200 0; level = B128; pos = 166; begin = 166; direction = Neither; last = Nothing }
+
+-- the level of a number
+abbrev pub LevelNumber : ℕ → Result Level Answer → Type 0
+LevelNumber n r = r ≡ cond (eqb n 128) (Ok B128) (cond (eqb n 256) (Ok B256) (Err NoLevel))
 
 -- by level number
 unfoldable pub created : List ℕ → ℕ → Given

@@ -1,68 +1,43 @@
-// The answers of a creation, a call, a load and a save.
+// The answers of a creation, a call, a load and a save, by the numbers of docs/RULES.md, section 7.
 ghost use Rattle.std.specs.Prelude.{◌≡◌};
 ghost use Rattle.strobe.specs.Answer.{number, refuses};
 
 #[derive(Clone, Copy, PartialEq, Eq)]
 pub enum Answer {
-    Done,
+    Done = 0,
     // the flag byte has K
-    KeyFlag,
+    KeyFlag = 1,
     // the flag byte is none of the twenty
-    NoOperation,
+    NoOperation = 2,
     // `more` is on, and the last operation is not this one
-    NotTheLast,
+    NotTheLast = 3,
     // `more` is on for a received MAC
-    CutMac,
+    CutMac = 4,
     // a ratchet or a received MAC above its limit
-    TooLong,
+    TooLong = 5,
     // a level number that is neither 128 nor 256
-    NoLevel,
+    NoLevel = 6,
     // the session is not well formed
-    NotASession,
+    NotASession = 8,
     // the received MAC is not the state's: the one answer beside Done that is no refusal
-    MacUnequal,
+    MacUnequal = 9,
     // no saved form
-    BadSaved,
+    BadSaved = 10,
     // a buffer too short to save into
-    ShortBuffer,
+    ShortBuffer = 11,
 }
 
 impl Answer {
-    // The number of docs/RULES.md, section 7.
     pub fn number(self) -> u8
         ensures { result ≡ number self }
     {
-        match self {
-            Answer::Done => 0,
-            Answer::KeyFlag => 1,
-            Answer::NoOperation => 2,
-            Answer::NotTheLast => 3,
-            Answer::CutMac => 4,
-            Answer::TooLong => 5,
-            Answer::NoLevel => 6,
-            Answer::NotASession => 8,
-            Answer::MacUnequal => 9,
-            Answer::BadSaved => 10,
-            Answer::ShortBuffer => 11,
-        }
+        self as u8
     }
 
     // Whether nothing was done. A wrong MAC is no refusal.
     pub fn refuses(self) -> bool
         ensures { result ≡ refuses (number self) }
     {
-        match self {
-            Answer::Done => false,
-            Answer::KeyFlag => true,
-            Answer::NoOperation => true,
-            Answer::NotTheLast => true,
-            Answer::CutMac => true,
-            Answer::TooLong => true,
-            Answer::NoLevel => true,
-            Answer::NotASession => true,
-            Answer::MacUnequal => false,
-            Answer::BadSaved => true,
-            Answer::ShortBuffer => true,
-        }
+        self != Answer::Done && self != Answer::MacUnequal
     }
 }

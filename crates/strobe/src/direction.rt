@@ -17,19 +17,9 @@ impl Direction {
         ensures { result ≡ directed self f }
     {
         match self {
-            Direction::Neither => {
-                if f.has(Flags::T) {
-                    if f.has(Flags::I) {
-                        Direction::Receiver
-                    } else {
-                        Direction::Sender
-                    }
-                } else {
-                    Direction::Neither
-                }
-            }
-            Direction::Sender => Direction::Sender,
-            Direction::Receiver => Direction::Receiver,
+            Direction::Neither if f.has(Flags::T) && f.has(Flags::I) => Direction::Receiver,
+            Direction::Neither if f.has(Flags::T) => Direction::Sender,
+            settled => settled,
         }
     }
 
@@ -37,14 +27,11 @@ impl Direction {
     fn disagrees(self, inbound: bool) -> u8
         ensures { result ≡ disagrees self inbound }
     {
-        match self {
-            Direction::Neither => if inbound { 1 } else { 0 },
-            Direction::Sender => if inbound { 1 } else { 0 },
-            Direction::Receiver => if inbound { 0 } else { 1 },
-        }
+        u8::from(inbound != (self == Direction::Receiver))
     }
 
     // The flags that are mixed in: both ends mix the same byte, though one sends and the other receives.
+    #[tactic(auto, unfolding(crate::specs::Strobe::mixed))]
     pub(crate) fn mixed(self, f: Flags) -> u8
         ensures { result ≡ mixed self f }
     {

@@ -78,8 +78,7 @@ impl Flags {
         ensures { result ≡ operation self }
     {
         if self.0 < 0x20 {
-            let base = self.0 % 0x10;
-            match base {
+            match self.0 % 0x10 {
                 0x02 => Operation::Ad,
                 0x04 => Operation::Ratchet,
                 0x06 => Operation::Key,
@@ -118,37 +117,13 @@ impl Operation {
     pub(crate) fn known(self) -> bool
         ensures { result ≡ known self }
     {
-        match self {
-            Operation::Ad => true,
-            Operation::Ratchet => true,
-            Operation::Key => true,
-            Operation::Prf => true,
-            Operation::SendClr => true,
-            Operation::RecvClr => true,
-            Operation::SendMac => true,
-            Operation::RecvMac => true,
-            Operation::SendEnc => true,
-            Operation::RecvEnc => true,
-            Operation::Unknown => false,
-        }
+        self != Operation::Unknown
     }
 
     pub(crate) fn is_recv_mac(self) -> bool
         ensures { result ≡ is_recv_mac self }
     {
-        match self {
-            Operation::Ad => false,
-            Operation::Ratchet => false,
-            Operation::Key => false,
-            Operation::Prf => false,
-            Operation::SendClr => false,
-            Operation::RecvClr => false,
-            Operation::SendMac => false,
-            Operation::RecvMac => true,
-            Operation::SendEnc => false,
-            Operation::RecvEnc => false,
-            Operation::Unknown => false,
-        }
+        self == Operation::RecvMac
     }
 
     // Whether n bytes, or a count of n, are too many for one call.
@@ -156,17 +131,9 @@ impl Operation {
         ensures { result ≡ over_limit self n }
     {
         match self {
-            Operation::Ad => false,
             Operation::Ratchet => 65536 < n,
-            Operation::Key => false,
-            Operation::Prf => false,
-            Operation::SendClr => false,
-            Operation::RecvClr => false,
-            Operation::SendMac => false,
             Operation::RecvMac => 64 < n,
-            Operation::SendEnc => false,
-            Operation::RecvEnc => false,
-            Operation::Unknown => false,
+            _ => false,
         }
     }
 }

@@ -24,9 +24,6 @@ impl Last {
     pub(crate) fn is(self, f: Flags) -> bool
         ensures { result ≡ is_last self f }
     {
-        match self {
-            Last::Nothing => false,
-            Last::Op(g) => g.0 == f.0,
-        }
+        self == Last::Op(f)
     }
 }

@@ -23,16 +23,13 @@ impl Session {
         let mut on = more;
         let mut a: usize = 0;
         while step < buf.len() - a {
-            let e = a + step;
-            let piece = session.call(flags, on, &mut buf[a..e]);
-            let answer = piece.answer;
-            if answer.refuses() {
+            let piece = session.call(flags, on, &mut buf[a..a + step]);
+            if piece.answer.refuses() {
                 return piece;
             }
-            let behind = piece.session;
-            session = behind;
+            session = piece.session;
             on = true;
-            a = e;
+            a += step;
         }
         session.call(flags, on, &mut buf[a..])
     }

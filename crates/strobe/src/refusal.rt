@@ -10,18 +10,11 @@ use crate::session::Session;
 
 impl Session {
     // The positions are in order, and the last operation is none or one of the twenty.
+    #[tactic(auto, unfolding(crate::specs::Strobe::well_formed))]
     pub fn well_formed(self) -> bool
         ensures { result ≡ well_formed (rate_of self.level) (seen self) }
     {
-        let level = self.level;
-        let last = self.last;
-        if level.rate() <= self.pos {
-            return false;
-        }
-        if self.pos < self.begin {
-            return false;
-        }
-        last.known()
+        self.pos < self.level.rate() && self.begin <= self.pos && self.last.known()
     }
 
     // Done, or the refusal of a call with n bytes.
@@ -30,7 +23,6 @@ impl Session {
         ensures { number result ≡ refusal (rate_of self.level) (seen self) flags more n }
     {
         let operation = flags.operation();
-        let last = self.last;
         if !self.well_formed() {
             return Answer::NotASession;
         }
@@ -44,7 +36,7 @@ impl Session {
             if operation.is_recv_mac() {
                 return Answer::CutMac;
             }
-            if !last.is(flags) {
+            if !self.last.is(flags) {
                 return Answer::NotTheLast;
             }
         }

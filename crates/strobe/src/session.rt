@@ -27,32 +27,19 @@ pub struct Outcome {
 }
 
 // The state before its first permutation.
+#[tactic(auto, unfolding(crate::specs::Strobe::seed))]
 fn seed(rate: usize) -> [u8; 200]
     requires { rate ≤ 166 }
     ensures { result ≡ seed (sponge rate) }
 {
     let mut st = [0u8; 200];
-    st[0] = 0x01;
-    st[1] = (rate + 2) as u8;
-    st[2] = 0x01;
-    st[4] = 0x01;
-    st[5] = 0x60;
-    st[6] = b'S';
-    st[7] = b'T';
-    st[8] = b'R';
-    st[9] = b'O';
-    st[10] = b'B';
-    st[11] = b'E';
-    st[12] = b'v';
-    st[13] = b'1';
-    st[14] = b'.';
-    st[15] = b'0';
-    st[16] = b'.';
-    st[17] = b'2';
+    st[..6].copy_from_slice(&[0x01, (rate + 2) as u8, 0x01, 0x00, 0x01, 0x60]);
+    st[6..18].copy_from_slice(b"STROBEv1.0.2");
     st
 }
 
 // A session before its protocol name is mixed in.
+#[tactic(auto, unfolding(crate::specs::Strobe::unnamed), using(crate::proofs::Calls::rate_small))]
 fn unnamed(level: Level) -> Session
     ensures { result ≡ held level (unnamed (sponge_of level)) }
 {
@@ -90,18 +77,16 @@ impl Session {
     }
 
     // The same by level number, 128 or 256.
+    #[tactic(auto, unfolding(crate::specs::Session::created))]
     pub fn create(proto: &[u8], level: usize) -> Outcome
         ensures { Is (created proto.now level) result }
     {
-        if level == 128 {
-            return Session::new(proto, Level::B128);
-        }
-        if level == 256 {
-            return Session::new(proto, Level::B256);
-        }
-        Outcome {
-            session: Session::blank(),
-            answer: Answer::NoLevel,
+        match Level::try_from(level) {
+            Ok(level) => Session::new(proto, level),
+            Err(answer) => Outcome {
+                session: Session::blank(),
+                answer,
+            },
         }
     }
 
@@ -109,8 +94,7 @@ impl Session {
     pub fn version_str(self) -> [u8; 29]
         ensures { result ≡ version_text self.level }
     {
-        let level = self.level;
-        match level {
+        match self.level {
             Level::B128 => *b"Strobe-Keccak-128/1600-v1.0.2",
             Level::B256 => *b"Strobe-Keccak-256/1600-v1.0.2",
         }
