@@ -8,8 +8,8 @@ use lib.ListN.{length, drop}
 use borrow.Author.Tests.{eqb-true, lt-ltb, le-ltb}
 use native.Mathlib.Omega.{arith}
 use Rattle.laws.proofs.Bools.{and_left}
-use Rattle.strobe.specs.Answer.{done, bad_saved}
-use Rattle.strobe.specs.Session.{rate_of, seen, given, blank}
+use Rattle.strobe.specs.Answer.{done}
+use Rattle.strobe.specs.Session.{rate_of, seen, given}
 use Rattle.strobe.specs.Strobe.{well_formed}
 use Rattle.strobe.specs.declared.answer.Answer.TheVariants.{Done, NotASession, ShortBuffer}
 use Rattle.strobe.specs.declared.session.Session.{Session}
@@ -39,17 +39,9 @@ loaded_in edition1 bs h = rw (not_second, h)
     not_second : is_edition edition2 bs ≡ false
     not_second = rw (edition_length edition1 bs h)
 
-pub neither_loaded : (bs : List ℕ) → is_edition edition2 bs ≡ false → is_edition edition1 bs ≡ false → loaded bs ≡ given bad_saved blank
-unfolding loaded
-neither_loaded bs e d = rw (e, d)
-
 module _ (bs : List ℕ) (last : ℕ) where
   abbrev pub fitting : Bool
   fitting = fits (byte_at bs 1) (byte_at bs 2) (byte_at bs 3) (byte_at bs 4) last
-
-  pub not_fitting : fitting ≡ false → loaded_with bs last ≡ given bad_saved blank
-  unfolding loaded_with
-  not_fitting e = rw e
 
   pub fitting_loaded : fitting ≡ true → loaded_with bs last ≡ given done (session_in bs last)
   unfolding loaded_with

@@ -1,3 +1,2 @@
 pub mod AfterLoad
-pub mod Head
 pub mod Saved

@@ -1,5 +1,5 @@
 -- The saved form in its two editions (docs/FORMATS.md, section 1): its bytes, what a load makes of any bytes, what a save does.
-use Rattle.std.specs.Prelude.{Bool, not, cond, ◌&&◌, ◌||◌, List, [], ◌∷◌, ◌++◌, ◌≡◌, ℕ, eqb, leb, ltb, length, get_or, take, drop}
+use Rattle.std.specs.Prelude.{Option, Some, None, Bool, not, cond, ◌&&◌, ◌||◌, List, [], ◌∷◌, ◌++◌, ◌≡◌, ℕ, eqb, leb, ltb, length, get_or, take, drop}
 use Rattle.strobe.specs.Answer.{number, done, not_a_session, bad_saved, short_buffer}
 use Rattle.strobe.specs.Flags.{flags}
 use Rattle.strobe.specs.Session.{rate_of, seen, Given, given, blank}
@@ -118,6 +118,11 @@ loaded bs =
     cond (is_edition edition2 bs) (loaded_with bs (last_in edition2 bs))
     (cond (is_edition edition1 bs) (loaded_with bs (last_in edition1 bs))
     (given bad_saved blank))
+
+-- what a load makes of the session that it read, or of none
+abbrev pub answered : Option Session → Given
+answered (Some s) = given done s
+answered None = given bad_saved blank
 
 -- a session with another last operation
 abbrev pub with_last : Session → Last → Session

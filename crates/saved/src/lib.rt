@@ -1,12 +1,11 @@
 // A session as 206 bytes, and back: the saved form (docs/FORMATS.md). A load takes the 205 bytes of edition 1 too. A form holds the secret state.
 #![tactic(auto)]
 
-ghost use Rattle.std.specs.Prelude.{◌≡◌, ◌≤◌, length, take, drop, [], ◌∷◌, ◌++◌};
-ghost use Rattle.strobe.specs.Answer.{bad_saved};
-ghost use Rattle.strobe.specs.Session.{given, blank, Is};
-ghost use Rattle.saved.specs.Saved.{edition1, edition2, number_of, size_of, level_byte, direction_byte, last_byte};
-ghost use Rattle.saved.specs.Saved.{level_of, direction_of, last_of, is_level, is_numbered, fits, loaded_with, loaded, Saves};
-ghost use Rattle.saved.specs.Head.{head_in};
+ghost use Rattle.std.specs.Prelude.{◌≡◌, ◌≤◌, length, drop, [], ◌∷◌, ◌++◌};
+ghost use Rattle.std.specs.Bool.{then_some};
+ghost use Rattle.strobe.specs.Session.{Is};
+ghost use Rattle.saved.specs.Saved.{edition1, edition2, number_of, size_of, level_byte, direction_byte, last_byte, is_level, is_direction};
+ghost use Rattle.saved.specs.Saved.{level_of, direction_of, last_of, loaded_with, loaded, answered, Saves};
 
 use strobe::{Answer, Direction, Flags, Last, Level, Outcome, Session};
 
@@ -41,10 +40,14 @@ fn level_byte(level: Level) -> u8
     }
 }
 
-fn level_of(byte: u8) -> Level
-    ensures { result ≡ level_of byte }
+fn level_of(byte: u8) -> Option<Level>
+    ensures { result ≡ then_some (is_level byte) (level_of byte) }
 {
-    if byte == 1 { Level::B128 } else { Level::B256 }
+    match byte {
+        1 => Some(Level::B128),
+        2 => Some(Level::B256),
+        _ => None,
+    }
 }
 
 fn direction_byte(direction: Direction) -> u8
@@ -57,16 +60,15 @@ fn direction_byte(direction: Direction) -> u8
     }
 }
 
-fn direction_of(byte: u8) -> Direction
-    ensures { result ≡ direction_of byte }
+fn direction_of(byte: u8) -> Option<Direction>
+    ensures { result ≡ then_some (is_direction byte) (direction_of byte) }
 {
-    if byte == 0 {
-        return Direction::Neither;
+    match byte {
+        0 => Some(Direction::Neither),
+        1 => Some(Direction::Sender),
+        2 => Some(Direction::Receiver),
+        _ => None,
     }
-    if byte == 1 {
-        return Direction::Sender;
-    }
-    Direction::Receiver
 }
 
 fn last_byte(last: Last) -> u8
@@ -81,113 +83,38 @@ fn last_byte(last: Last) -> u8
 fn last_of(byte: u8) -> Last
     ensures { result ≡ last_of byte }
 {
-    if byte == NO_LAST {
-        return Last::Nothing;
+    match byte {
+        NO_LAST => Last::Nothing,
+        _ => Last::Op(Flags(byte)),
     }
-    Last::Op(Flags(byte))
 }
 
-// Whether bytes have an edition's number in front, and its size.
-#[tactic(auto, unfolding(crate::specs::Saved::is_numbered))]
-fn is_edition(bytes: &[u8], number: u8, size: usize) -> bool
-    requires { size_of edition1 ≤ size }
-    ensures { result ≡ is_numbered number size bytes.now }
-{
-    if bytes.len() != size {
-        return false;
-    }
-    bytes[0] == number
-}
-
-// The four bytes after the edition.
-#[derive(Clone, Copy)]
-struct Head {
-    level: u8,
-    pos: u8,
-    begin: u8,
-    direction: u8,
-}
-
-fn head_in(form: &[u8]) -> Head
+// The session in what both editions hold and the byte of a last operation.
+#[tactic(auto, unfolding(crate::specs::Saved::loaded_with, crate::specs::Saved::session_in, crate::specs::Saved::fits, strobe::specs::Strobe::well_formed))]
+fn session_in(form: &[u8], last: u8) -> Option<Session>
     requires { size_of edition1 ≤ length form.now }
-    ensures { result ≡ head_in form.now }
+    ensures { answered result ≡ loaded_with form.now last }
 {
-    Head {
-        level: form[1],
-        pos: form[2],
-        begin: form[3],
-        direction: form[4],
-    }
-}
-
-fn is_level(byte: u8) -> bool
-    ensures { result ≡ is_level byte }
-{
-    if byte == 1 {
-        return true;
-    }
-    byte == 2
-}
-
-// Whether they and the byte of a last operation belong to a session.
-#[tactic(auto, unfolding(crate::specs::Saved::fits))]
-fn fits(head: Head, last: u8) -> bool
-    ensures { result ≡ fits head.level head.pos head.begin head.direction last }
-{
-    if !is_level(head.level) {
-        return false;
-    }
-    if level_of(head.level).rate() <= head.pos as usize {
-        return false;
-    }
-    if head.pos < head.begin {
-        return false;
-    }
-    if 2 < head.direction {
-        return false;
-    }
-    last_of(last).known()
-}
-
-// The state bytes of a saved form.
-fn state_in(form: &[u8]) -> [u8; 200]
-    requires { size_of edition1 ≤ length form.now }
-    ensures { result ≡ take 200 (drop 5 form.now) }
-{
-    let mut state = [0u8; 200];
-    state.copy_from_slice(&form[STATE..STATE_END]);
-    state
-}
-
-fn refused() -> Outcome
-    ensures { Is (given bad_saved blank) result }
-{
-    Outcome {
-        session: Session::blank(),
-        answer: Answer::BadSaved,
-    }
-}
-
-// A session from what both editions hold and the byte of a last operation.
-fn load_with(form: &[u8], last: u8) -> Outcome
-    requires { size_of edition1 ≤ length form.now }
-    ensures { Is (loaded_with form.now last) result }
-{
-    let head = head_in(form);
-    if !fits(head, last) {
-        return refused();
-    }
     let session = Session {
-        state: state_in(form),
-        level: level_of(head.level),
-        pos: head.pos as usize,
-        begin: head.begin as usize,
-        direction: direction_of(head.direction),
+        state: form[STATE..STATE_END].try_into().ok()?,
+        level: level_of(form[1])?,
+        pos: form[2] as usize,
+        begin: form[3] as usize,
+        direction: direction_of(form[4])?,
         last: last_of(last),
     };
-    Outcome {
-        session,
-        answer: Answer::Done,
+    session.well_formed().then_some(session)
+}
+
+// The session in a saved form, of either edition; edition 1 sets no last operation.
+#[tactic(auto, unfolding(crate::specs::Saved::loaded, crate::specs::Saved::is_numbered))]
+fn session_of(bytes: &[u8]) -> Option<Session>
+    ensures { answered result ≡ loaded bytes.now }
+{
+    match bytes {
+        [EDITION_2, .., last] if bytes.len() == SIZE_2 => session_in(bytes, *last),
+        [EDITION_1, ..] if bytes.len() == SIZE_1 => session_in(bytes, NO_LAST),
+        _ => None,
     }
 }
 
@@ -195,13 +122,16 @@ fn load_with(form: &[u8], last: u8) -> Outcome
 pub fn load(bytes: &[u8]) -> Outcome
     ensures { Is (loaded bytes.now) result }
 {
-    if is_edition(bytes, EDITION_2, SIZE_2) {
-        return load_with(bytes, bytes[LAST]);
+    let Some(session) = session_of(bytes) else {
+        return Outcome {
+            session: Session::blank(),
+            answer: Answer::BadSaved,
+        };
+    };
+    Outcome {
+        session,
+        answer: Answer::Done,
     }
-    if is_edition(bytes, EDITION_1, SIZE_1) {
-        return load_with(bytes, NO_LAST);
-    }
-    refused()
 }
 
 // Writes a saved form of edition 2, part by part.
