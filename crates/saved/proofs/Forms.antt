@@ -1,19 +1,16 @@
 -- What the tests of a load and of a save settle. Assumes nothing.
-use Prim.Native.Nat.{ℕ, ◌≤◌, ◌<◌}
+use Prim.Native.Nat.{ℕ, ◌≤◌}
 use mathlib.Core.Path.{◌≡◌}
-use mathlib.Core.List.{List, ◌++◌}
+use mathlib.Core.List.{List}
 use mathlib.Core.Bool.{Bool, true, false}
 use lib.Dec.{eqb}
-use lib.ListN.{length, drop}
-use borrow.Author.Tests.{eqb-true, lt-ltb, le-ltb}
+use lib.ListN.{length}
+use borrow.Author.Tests.{eqb-true}
 use native.Mathlib.Omega.{arith}
 use Rattle.laws.proofs.Bools.{and_left}
 use Rattle.strobe.specs.Answer.{done}
-use Rattle.strobe.specs.Session.{rate_of, seen, given}
-use Rattle.strobe.specs.Strobe.{well_formed}
-use Rattle.strobe.specs.declared.answer.Answer.TheVariants.{Done, NotASession, ShortBuffer}
-use Rattle.strobe.specs.declared.session.Session.{Session}
-use Rattle.saved.specs.Saved.{Edition, edition1, edition2, number_of, size_of, newest, form, byte_at, is_numbered, is_edition, fits, session_in, loaded_with, last_in, loaded, saving, Saves}
+use Rattle.strobe.specs.Session.{given}
+use Rattle.saved.specs.Saved.{Edition, edition1, edition2, number_of, size_of, byte_at, is_numbered, is_edition, fits, session_in, loaded_with, last_in, loaded}
 
 -- ---- a load
 
@@ -46,18 +43,3 @@ module _ (bs : List ℕ) (last : ℕ) where
   pub fitting_loaded : fitting ≡ true → loaded_with bs last ≡ given done (session_in bs last)
   unfolding loaded_with
   fitting_loaded e = rw e
-
--- ---- a save
-
-pub saves_no_session : (s : Session) (bs : List ℕ) → well_formed (rate_of s.level) (seen s) ≡ false → Saves s bs NotASession bs
-unfolding saving
-saves_no_session s bs w = record { answer = rw w; lent = rw w }
-
-pub saves_short : (s : Session) (bs : List ℕ) → well_formed (rate_of s.level) (seen s) ≡ true → length bs < size_of newest → Saves s bs ShortBuffer bs
-unfolding saving
-saves_short s bs w h = let t = lt-ltb (length bs) (size_of newest) h in record { answer = rw (w, t); lent = rw (w, t) }
-
-pub saves_done : (s : Session) (bs : List ℕ) → well_formed (rate_of s.level) (seen s) ≡ true → size_of newest ≤ length bs
-    → Saves s bs Done (form newest s ++ drop (size_of newest) bs)
-unfolding saving
-saves_done s bs w h = let t = le-ltb (length bs) (size_of newest) h in record { answer = rw (w, t); lent = rw (w, t) }

@@ -1,5 +1,4 @@
 pub mod Bytes
-pub mod Copy
 pub mod FirstCall
 pub mod Forms
 pub mod Loaded

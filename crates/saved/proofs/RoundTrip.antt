@@ -8,7 +8,7 @@ use mathlib.Core.Bool.{Bool, true, false, cond}
 use mathlib.Core.Logic.{◌↔◌}
 use lib.Dec.{eqb, leb, ltb}
 use lib.ListN.{length, take, drop, length-append, length-drop, take-append-drop, drop_of_length-le}
-use lib.Seq.{take_all, drop-cons, drop-drop, take_at, drop_at, get_or_at}
+use lib.Seq.{length-take-le, take_all, drop-cons, drop-drop, take_at, drop_at, get_or_at}
 use borrow.Author.Tests.{eqb-true, ltb-true, leb-true, eq-eqb, lt-ltb, le-ltb, le-leb}
 use native.Mathlib.Omega.{arith}
 use Rattle.laws.proofs.Bools.{and_left, and_right}
@@ -23,7 +23,6 @@ use Rattle.saved.specs.Saved.{byte_at, is_level, is_direction, level_of, last_of
 use Rattle.saved.specs.Saved.{with_last, kept_by, saving}
 use Rattle.saved.proofs.Bytes.{level_byte-is_level, level_of-byte, level_byte_of, last_of-byte, last_byte_of}
 use Rattle.saved.proofs.Bytes.{direction_byte-is_direction, direction_of-byte, direction_byte_of}
-use Rattle.saved.proofs.Copy.{state_length}
 use Rattle.saved.proofs.Forms.{size_least, edition_length, loaded_in, fitting, fitting_loaded}
 
 -- ---- a form of a session loads
@@ -203,7 +202,7 @@ unfolding session_in
 loaded_size bs d =
     let e = edition_of bs d in
     let f = seen_of e.0 bs e.1 d in
-    rw f.session (state_length bs (omega (arith, f.long, size_least e.0)))
+    rw f.session (length-take-le 200 (drop 5 bs) (omega (arith, length-drop 5 bs, f.long, size_least e.0)))
 
 -- a save into a buffer with room, whose rest stays
 loaded-saving : (bs buf : List ℕ) → (loaded bs).answer ≡ done → size_of newest ≤ length buf

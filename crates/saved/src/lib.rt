@@ -1,10 +1,11 @@
 // A session as 206 bytes, and back: the saved form (docs/FORMATS.md). A load takes the 205 bytes of edition 1 too. A form holds the secret state.
 #![tactic(auto)]
 
-ghost use Rattle.std.specs.Prelude.{◌≡◌, ◌≤◌, length, drop, [], ◌∷◌, ◌++◌};
+ghost use Rattle.std.specs.Prelude.{◌≡◌, ◌≤◌, true, length};
 ghost use Rattle.std.specs.Bool.{then_some};
-ghost use Rattle.strobe.specs.Session.{Is};
-ghost use Rattle.saved.specs.Saved.{edition1, edition2, number_of, size_of, level_byte, direction_byte, last_byte, is_level, is_direction};
+ghost use Rattle.strobe.specs.Session.{rate_of, seen, Is};
+ghost use Rattle.strobe.specs.Strobe.{well_formed};
+ghost use Rattle.saved.specs.Saved.{edition1, newest, size_of, level_byte, direction_byte, last_byte, form, is_level, is_direction};
 ghost use Rattle.saved.specs.Saved.{level_of, direction_of, last_of, loaded_with, loaded, answered, Saves};
 
 use strobe::{Answer, Direction, Flags, Last, Level, Outcome, Session};
@@ -134,51 +135,35 @@ pub fn load(bytes: &[u8]) -> Outcome
     }
 }
 
-// Writes a saved form of edition 2, part by part.
-fn write_form(
-    level: u8,
-    pos: u8,
-    begin: u8,
-    direction: u8,
-    state: [u8; 200],
-    last: u8,
-    buf: &mut [u8],
-)
-    requires { size_of edition2 ≤ length buf.old }
-    ensures { buf.new ≡ (number_of edition2 ∷ level ∷ pos ∷ begin ∷ direction ∷ (state ++ last ∷ [])) ++ drop (size_of edition2) buf.old }
+// The form of a well-formed session, edition 2.
+#[tactic(auto, unfolding(crate::specs::Saved::form, strobe::specs::Strobe::well_formed))]
+fn form(session: Session) -> [u8; SIZE]
+    requires { well_formed (rate_of session.level) (seen session) ≡ true }
+    ensures { result ≡ form newest session }
 {
-    buf[0] = EDITION_2;
-    buf[1] = level;
-    buf[2] = pos;
-    buf[3] = begin;
-    buf[4] = direction;
-    buf[STATE..STATE_END].copy_from_slice(&state);
-    buf[LAST] = last;
+    let mut form = [0u8; SIZE];
+    form[0] = EDITION_2;
+    form[1] = level_byte(session.level);
+    form[2] = session.pos as u8;
+    form[3] = session.begin as u8;
+    form[4] = direction_byte(session.direction);
+    form[LAST] = last_byte(session.last);
+    form[STATE..STATE_END].copy_from_slice(&session.state);
+    form
 }
 
 // Writes the saved form, edition 2, to the front of a buffer and leaves the rest of a longer one alone. A session that is not well formed gets
 // NotASession, fewer than 206 bytes ShortBuffer.
+#[tactic(auto, unfolding(crate::specs::Saved::saving))]
 pub fn save(session: Session, buf: &mut [u8]) -> Answer
     ensures { Saves session buf.old result buf.new }
 {
     if !session.well_formed() {
         return Answer::NotASession;
     }
-    if buf.len() < SIZE {
+    let Some(front) = buf.first_chunk_mut::<SIZE>() else {
         return Answer::ShortBuffer;
-    }
-    let level = session.level;
-    let direction = session.direction;
-    let state = session.state;
-    let last = session.last;
-    write_form(
-        level_byte(level),
-        session.pos as u8,
-        session.begin as u8,
-        direction_byte(direction),
-        state,
-        last_byte(last),
-        buf,
-    );
+    };
+    *front = form(session);
     Answer::Done
 }
