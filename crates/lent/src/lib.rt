@@ -7,7 +7,7 @@ ghost use Rattle.strobe.specs.Session.{Calls};
 ghost use Rattle.saved.specs.Saved.{Saves};
 ghost use Rattle.lent.specs.Lent.{outcome};
 
-use strobe::{Answer, Flags, Session};
+use strobe::{Answer, Flags, Outcome, Session};
 
 mod turn;
 
@@ -19,45 +19,56 @@ pub struct Report {
     pub answer: Answer,
 }
 
+// A call by value on a lent session. The call is lent as well: only then is it known what it leaves in a buffer that it writes.
+fn lend<F: FnMut(Session) -> Outcome>(session: &mut Session, work: &mut F) -> Report
+    requires { F.IsAlwaysCallable work.old }
+    ensures { F.step work.old session.old (outcome session.new result) work.new }
+{
+    let out = work(*session);
+    *session = out.session;
+    Report { answer: out.answer }
+}
+
 // The call by number.
 pub fn call(session: &mut Session, flags: Flags, more: bool, buf: &mut [u8]) -> Report
     ensures { Calls session.old flags more buf.old (outcome session.new result) buf.new }
 {
-    let out = Session::call(*session, flags, more, buf);
-    *session = out.session;
-    Report { answer: out.answer }
+    lend(session, &mut |own| own.call(flags, more, buf))
 }
 
 pub fn ad(session: &mut Session, bytes: &[u8], more: bool) -> Report
     ensures { Calls session.old AD more bytes.now (outcome session.new result) bytes.now }
 {
-    let out = Session::ad(*session, bytes, more);
-    *session = out.session;
-    Report { answer: out.answer }
+    lend(session, &mut |own| own.ad(bytes, more))
 }
 
 pub fn ratchet(session: &mut Session, count: usize, more: bool) -> Report
     ensures { Calls session.old RATCHET more (replicate count 0) (outcome session.new result) (replicate count 0) }
 {
-    let out = Session::ratchet(*session, count, more);
-    *session = out.session;
-    Report { answer: out.answer }
+    lend(session, &mut |own| own.ratchet(count, more))
 }
 
 // The same with the session taken apart field by field, and put together again.
 pub fn prf(session: &mut Session, buf: &mut [u8], more: bool) -> Report
     ensures { Calls session.old PRF more buf.old (outcome session.new result) buf.new }
 {
-    let state = session.state;
+    let Session {
+        state,
+        level,
+        pos,
+        begin,
+        direction,
+        last,
+    } = *session;
     let whole = Session {
         state,
-        level: session.level,
-        pos: session.pos,
-        begin: session.begin,
-        direction: session.direction,
-        last: session.last,
+        level,
+        pos,
+        begin,
+        direction,
+        last,
     };
-    let out = Session::prf(whole, buf, more);
+    let out = whole.prf(buf, more);
     let left = out.session.state;
     session.state = left;
     session.level = out.session.level;

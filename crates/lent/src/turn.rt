@@ -17,6 +17,7 @@ pub struct Turn {
 
 // An event is taken in by ad, an operation is done by number on the buffer, dice are drawn by prf, the state is ratcheted, and the session is saved into the form. Each
 // call is made whatever those before it answered.
+#[tactic(auto, using(crate::proofs::Turns::turned))]
 pub fn take_turn(
     session: Session,
     event: &[u8],
@@ -30,17 +31,17 @@ pub fn take_turn(
     ensures { Turned session event.now flags more buf.old dice.old count form.old result buf.new dice.new form.new }
 {
     let mut own = session;
-    let noted = ad(&mut own, event, false);
-    let called = call(&mut own, flags, more, buf);
-    let drawn = prf(&mut own, dice, false);
-    let ratcheted = ratchet(&mut own, count, false);
+    let noted = ad(&mut own, event, false).answer;
+    let called = call(&mut own, flags, more, buf).answer;
+    let drawn = prf(&mut own, dice, false).answer;
+    let ratcheted = ratchet(&mut own, count, false).answer;
     let saved = save(&own, form);
     Turn {
         session: own,
-        noted: noted.answer,
-        called: called.answer,
-        drawn: drawn.answer,
-        ratcheted: ratcheted.answer,
+        noted,
+        called,
+        drawn,
+        ratcheted,
         saved,
     }
 }
