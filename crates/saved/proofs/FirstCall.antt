@@ -5,6 +5,7 @@ use mathlib.Core.Path.{◌≡◌, refl, ap, ◌∙◌}
 use mathlib.Core.List.{List, [], ◌∷◌}
 use mathlib.Core.Bool.{Bool, true, false, not, cond}
 use lib.ListN.{length}
+use native.Mathlib.Omega.{arith}
 use borrow.Author.Tests.{not-true}
 use Rattle.laws.proofs.Bools.{true_not_false}
 use Rattle.strobe.proofs.Accepted.{refusal-refuses}
@@ -38,13 +39,7 @@ without_well rate s w = ordered_well rate (without_last s) (well_ordered rate s 
 
 pub waiting-refuses : (f : Flags) → refuses (waiting f) ≡ true
 unfolding waiting
-waiting-refuses f = go (has f K) (known (operation f)) (is_recv_mac (operation f))
-  where
-    go : (k o m : Bool) → refuses (cond k 1 (cond (not o) 2 (cond m 4 3))) ≡ true
-    go true o m = refl
-    go false false m = refl
-    go false true true = refl
-    go false true false = refl
+waiting-refuses f = grind arith
 
 module _ (sp : Sponge) (s : Strobe) (w : well_formed sp.rate s ≡ true) where
   pub more_waits : (f : Flags) (bs : List ℕ)
@@ -92,11 +87,7 @@ module _ (sp : Sponge) (s : Strobe) (w : well_formed sp.rate s ≡ true) where
   Afterwards ks t = (opens ks ≡ false → (ks ≡ []) × (t ≡ without_last s)) × (opens ks ≡ true → t ≡ ran sp s ks)
 
   accepted_opens : (c : Call) → accepts sp (without_last s) c ≡ true → c.more ≡ false
-  accepted_opens c a = go c.more refl
-    where
-      go : (t : Bool) → c.more ≡ t → t ≡ false
-      go true e = absurd (true_not_false a (more_refused c e))
-      go false e = refl
+  accepted_opens c a = grind (arith, more_refused)
 
   afterwards : (cs : List Call) → Afterwards (kept sp s (without_last s) cs) (loaded_after sp s (without_last s) cs)
   unfolding ran struck opens

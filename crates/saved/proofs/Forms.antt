@@ -3,14 +3,11 @@ use Prim.Native.Nat.{ℕ, ◌≤◌}
 use mathlib.Core.Path.{◌≡◌}
 use mathlib.Core.List.{List}
 use mathlib.Core.Bool.{Bool, true, false}
-use lib.Dec.{eqb}
 use lib.ListN.{length}
-use borrow.Author.Tests.{eqb-true}
 use native.Mathlib.Omega.{arith}
-use Rattle.laws.proofs.Bools.{and_left}
 use Rattle.strobe.specs.Answer.{done}
 use Rattle.strobe.specs.Session.{given}
-use Rattle.saved.specs.Saved.{Edition, edition1, edition2, number_of, size_of, byte_at, is_numbered, is_edition, fits, session_in, loaded_with, last_in, loaded}
+use Rattle.saved.specs.Saved.{Edition, edition1, edition2, size_of, byte_at, is_numbered, is_edition, fits, session_in, loaded_with, last_in, loaded}
 
 -- ---- a load
 
@@ -18,14 +15,10 @@ pub size_least : (e : Edition) → size_of edition1 ≤ size_of e
 size_least edition1 = omega arith
 size_least edition2 = omega arith
 
--- so many bytes with a number in front are so many
-pub numbered_length : (number size : ℕ) (bs : List ℕ) → is_numbered number size bs ≡ true → length bs ≡ size
-unfolding is_numbered
-numbered_length number size bs h = eqb-true (length bs) size (and_left (eqb (length bs) size) _ h)
-
 -- the bytes of an edition have its length
 pub edition_length : (e : Edition) (bs : List ℕ) → is_edition e bs ≡ true → length bs ≡ size_of e
-edition_length e bs h = numbered_length (number_of e) (size_of e) bs h
+unfolding is_numbered
+edition_length e bs h = grind arith
 
 -- so the editions keep apart
 pub loaded_in : (e : Edition) (bs : List ℕ) → is_edition e bs ≡ true → loaded bs ≡ loaded_with bs (last_in e bs)

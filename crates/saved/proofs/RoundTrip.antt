@@ -4,17 +4,15 @@
 use Prim.Native.Nat.{ℕ, ◌≤◌, ◌<◌}
 use mathlib.Core.Path.{◌≡◌, refl, sym, ap, ◌∙◌}
 use mathlib.Core.List.{List, [], ◌∷◌, ◌++◌, append-nil}
-use mathlib.Core.Bool.{Bool, true, false, cond}
+use mathlib.Core.Bool.{Bool, true, false}
 use mathlib.Core.Logic.{◌↔◌}
-use lib.Dec.{eqb, leb, ltb}
 use lib.ListN.{length, take, drop, length-append, length-drop, take-append-drop, drop_of_length-le}
 use lib.Seq.{length-take-le, take_all, drop-cons, drop-drop, take_at, drop_at, get_or_at}
-use borrow.Author.Tests.{eqb-true, ltb-true, leb-true, eq-eqb, lt-ltb, le-ltb, le-leb}
+use borrow.Author.Tests.{eq-eqb, lt-ltb, le-ltb, le-leb}
 use native.Mathlib.Omega.{arith}
-use Rattle.laws.proofs.Bools.{and_left, and_right}
 use Rattle.strobe.proofs.Calls.{well_ordered, well_known, ordered_well}
-use Rattle.strobe.specs.Answer.{done, bad_saved}
-use Rattle.strobe.specs.Session.{rate_of, seen, Given, given, blank}
+use Rattle.strobe.specs.Answer.{done}
+use Rattle.strobe.specs.Session.{rate_of, seen, Given, given}
 use Rattle.strobe.specs.Strobe.{known_last, well_formed}
 use Rattle.strobe.specs.declared.last.Last.{Last}
 use Rattle.strobe.specs.declared.session.Session.{Session}
@@ -101,42 +99,33 @@ record Fitting (e : Edition) (bs : List ℕ) : Type 0 where
 
 done-fits : (bs : List ℕ) (last : ℕ) → (loaded_with bs last).answer ≡ done → fitting bs last ≡ true
 unfolding loaded_with
-done-fits bs last e = go (fitting bs last) e
-  where
-    go : (t : Bool) → (cond t (given done (session_in bs last)) (given bad_saved blank)).answer ≡ done → t ≡ true
-    go true e = refl
-    go false e = absurd (omega arith)
+done-fits bs last e = grind arith
 
 seen_of : (e : Edition) (bs : List ℕ) → is_edition e bs ≡ true → (loaded bs).answer ≡ done → Fitting e bs
 unfolding is_numbered fits
 seen_of e bs here d =
     let is = loaded_in e bs here in
     let there = done-fits bs (last_in e bs) (sym (ap (λ (g : Given). g.answer) is) ∙ d) in
-    let after-level = and_right (is_level (byte_at bs 1)) _ there in
-    let after-pos = and_right (ltb (byte_at bs 2) (rate_of (level_of (byte_at bs 1)))) _ after-level in
-    let after-begin = and_right (leb (byte_at bs 3) (byte_at bs 2)) _ after-pos in
     record {
       long = edition_length e bs here;
-      first = eqb-true (byte_at bs 0) (number_of e) (and_right (eqb (length bs) (size_of e)) _ here);
-      level = and_left (is_level (byte_at bs 1)) _ there;
-      below = ltb-true _ _ (and_left (ltb (byte_at bs 2) (rate_of (level_of (byte_at bs 1)))) _ after-level);
-      begun = leb-true _ _ (and_left (leb (byte_at bs 3) (byte_at bs 2)) _ after-pos);
-      direction = and_left (is_direction (byte_at bs 4)) _ after-begin;
-      last = and_right (is_direction (byte_at bs 4)) _ after-begin;
+      first = grind arith;
+      level = grind arith;
+      below = grind arith;
+      begun = grind arith;
+      direction = grind arith;
+      last = grind arith;
       session = is ∙ fitting_loaded bs (last_in e bs) there;
     }
 
 -- a load that is done was of an edition
 edition_of : (bs : List ℕ) → (loaded bs).answer ≡ done → (e : Edition) × (is_edition e bs ≡ true)
 unfolding loaded
-edition_of bs d = go (is_edition edition2 bs) refl (is_edition edition1 bs) refl d
+edition_of bs d = go (is_edition edition2 bs) refl (is_edition edition1 bs) refl
   where
-    go : (t : Bool) → is_edition edition2 bs ≡ t → (u : Bool) → is_edition edition1 bs ≡ u
-        → (cond t (loaded_with bs (last_in edition2 bs)) (cond u (loaded_with bs (last_in edition1 bs)) (given bad_saved blank))).answer ≡ done
-        → (e : Edition) × (is_edition e bs ≡ true)
-    go true h u i d = (edition2, h)
-    go false h true i d = (edition1, i)
-    go false h false i d = absurd (omega arith)
+    go : (t : Bool) → is_edition edition2 bs ≡ t → (u : Bool) → is_edition edition1 bs ≡ u → (e : Edition) × (is_edition e bs ≡ true)
+    go true h u i = (edition2, h)
+    go false h true i = (edition1, i)
+    go false h false i = absurd (grind arith)
 
 -- ---- what was loaded saves as the same bytes
 
