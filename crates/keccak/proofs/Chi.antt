@@ -49,7 +49,7 @@ joined (suc o) a b = bit_or a b
 abbrev form : (ℕ → ℕ → ℕ) → ℕ → ℕ → ℕ → ℕ → ℕ → ℕ
 form by x y a b c = bit_xor (by (own x y) a) (joined (or_at x y) (by (next x y) b) (by (third x y) c))
 
-abbrev form_at : ℕ → List ℕ → ℕ → ℕ → ℕ
+abbrev pub form_at : ℕ → List ℕ → ℕ → ℕ → ℕ
 form_at w p x y = form (by_mark w) x y (lane p x y) (lane p ((x + 1) % 5) y) (lane p ((x + 2) % 5) y)
 
 -- the round with these forms for chi: what the code computes
@@ -149,3 +149,8 @@ module _ (w : ℕ) (a : List ℕ) (f : Fits w a) where
 pub round_marked : (w c : ℕ) (a : List ℕ) → Fits w a → marked_round w c a ≡ complemented w (round_lanes w c (complemented w a))
 unfolding round_lanes complemented
 round_marked w c a f = ap (iota_lanes c) (forms_are_chi w a f)
+
+-- the same, where b is what chi reads
+pub round_over : (w c : ℕ) (a b : List ℕ) → b ≡ before_chi w a → Fits w a
+    → iota_lanes c (lanes (form_at w b)) ≡ complemented w (round_lanes w c (complemented w a))
+round_over w c a b e f = ap (λ (p : List ℕ). iota_lanes c (lanes (form_at w p))) e ∙ round_marked w c a f

@@ -1,16 +1,16 @@
 -- What the loops of Keccak-f[1600] cite: one turn more of a loop that counts up, and what all of its turns make. Assumes nothing.
-use mathlib.Core.Path.{◌≡◌, refl, ap, ◌∙◌}
+use mathlib.Core.Path.{◌≡◌, refl, ap, subst, ◌∙◌}
 use mathlib.Core.List.{List, [], ◌∷◌, map}
 use Prim.Native.Nat.{ℕ, zero, suc, ◌+◌, ◌*◌, ◌<◌}
 use native.Mathlib.Nat.{add-zero, add-suc}
-use native.Mathlib.Omega.{arith}
 use native.Mathlib.Numerals.{add-one}
 use lib.ListN.{length, get_or, set, replicate}
-use lib.Seq.{sets}
+use borrow.Rule.Slice.PartMut.{put_mid}
 use Rattle.fips202.specs.Keccak.{count_from}
-use Rattle.fips202.specs.Lanes.{Fits, round_constant, round_lanes, rounds_lanes, le_number, lane_of_bytes, lanes_of_bytes, bytes_of_lane, bytes_of_lanes}
+use Rattle.fips202.specs.Lanes.{Fits, complement, round_constant, round_lanes, rounds_lanes, bytes_of_lane, bytes_of_lanes}
 use Rattle.fips202.proofs.Count.{get_or-upto}
 use Rattle.fips202.proofs.Rounds.{rounds_fit}
+use Rattle.fips202.proofs.Steps.{lanes-whole}
 use Rattle.keccak.specs.Complemented.{complemented}
 use Rattle.keccak.proofs.Complemented.{complemented-fits, complemented_twice}
 
@@ -29,21 +29,24 @@ unfolding turns
 turns_join f n zero a = rw (add-zero n)
 turns_join f n (suc k) a = rw (add-suc n k) (ap (f (n + k)) (turns_join f n k a))
 
--- the loop that reads lanes
-abbrev pub read_at : List ℕ → ℕ → List ℕ → List ℕ
-read_at s i a = set a i (lane_of_bytes 8 s i)
-
-pub read_all : (s : List ℕ) → turns (read_at s) 25 (replicate 25 0) ≡ lanes_of_bytes 8 s
-unfolding turns
-read_all s = refl
-
 -- the loop that writes lanes
 abbrev pub write_at : List ℕ → ℕ → List ℕ → List ℕ
-write_at a i out = sets out (i * 8) (bytes_of_lane 8 (get_or a i 0))
+write_at a i out = put_mid (i * 8) 8 out (bytes_of_lane 8 (get_or a i 0))
 
 pub write_all : (a : List ℕ) → turns (write_at a) 25 (replicate 200 0) ≡ bytes_of_lanes 8 a
 unfolding turns
 write_all a = refl
+
+-- the loop over the indices of the marked lanes
+abbrev pub complement_at : List ℕ → ℕ → List ℕ → List ℕ
+complement_at indices k s = let i = get_or indices k 0 in set s i (complement 64 (get_or s i 0))
+
+abbrev pub marked : List ℕ
+marked = 1 ∷ 2 ∷ 8 ∷ 12 ∷ 17 ∷ 20 ∷ []
+
+pub complement_all : (a : List ℕ) → length a ≡ 25 → turns (complement_at marked) 6 a ≡ complemented 64 a
+unfolding turns complemented
+complement_all a long = subst (λ (s : List ℕ). turns (complement_at marked) 6 s ≡ complemented 64 s) (lanes-whole a long) refl
 
 -- the loops over the rounds: round i, between lanes of which the marked ones are complemented
 abbrev pub round_at : ℕ → List ℕ → List ℕ
@@ -67,14 +70,3 @@ round_constants = map (round_constant 6) (count_from 0 24)
 
 pub constant_at : (table : List ℕ) → table ≡ round_constants → (i : ℕ) → i < 24 → get_or table i 0 ≡ round_constant 6 i
 constant_at table e i h = ap (λ (t : List ℕ). get_or t i 0) e ∙ get_or-upto (round_constant 6) 24 i h
-
--- a lane from its bytes, at the indexes that the code has
-pub lane-bytes : (s : List ℕ) (i : ℕ)
-    → lane_of_bytes 8 s i
-    ≡ le_number
-    (get_or s (i * 8) 0 ∷ get_or s (i * 8 + 1) 0 ∷ get_or s (i * 8 + 2) 0 ∷ get_or s (i * 8 + 3) 0 ∷ get_or s (i * 8 + 4) 0 ∷ get_or s (i * 8 + 5) 0
-    ∷ get_or s (i * 8 + 6) 0 ∷ get_or s (i * 8 + 7) 0 ∷ [])
-lane-bytes s i =
-    let e : 8 * i ≡ i * 8 = omega arith in
-    let z : i * 8 + 0 ≡ i * 8 = omega arith in
-    rw (e, z)

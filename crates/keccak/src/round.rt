@@ -1,5 +1,5 @@
-// The round of KECCAK-f[1600] on 25 lanes of 64 bits: lane x + 5 y holds the bits A[x, y, z]. Each lane is read once, by a fixed index, and
-// stays in a local from theta to iota.
+// The round of KECCAK-f[1600] on 25 lanes of 64 bits: lane x + 5 y holds the bits A[x, y, z]. Each lane is read once, by the pattern,
+// and stays in a local from theta to iota.
 ghost use Rattle.std.specs.Prelude.{◌≡◌};
 ghost use Rattle.fips202.specs.Lanes.{round_lanes};
 ghost use Rattle.keccak.specs.Complemented.{complemented};
@@ -9,12 +9,9 @@ pub fn complement_marked(a: [u64; 25]) -> [u64; 25]
     ensures { result ≡ complemented 64 a }
 {
     let mut s = a;
-    s[1] = !s[1];
-    s[2] = !s[2];
-    s[8] = !s[8];
-    s[12] = !s[12];
-    s[17] = !s[17];
-    s[20] = !s[20];
+    for i in [1, 2, 8, 12, 17, 20] {
+        s[i] = !s[i];
+    }
     s
 }
 
@@ -23,53 +20,55 @@ pub fn complement_marked(a: [u64; 25]) -> [u64; 25]
 pub fn round(a: [u64; 25], rc: u64) -> [u64; 25]
     ensures { result ≡ complemented 64 (round_lanes 64 rc (complemented 64 a)) }
 {
-    let a0 = a[0];
-    let a1 = a[1];
-    let a2 = a[2];
-    let a3 = a[3];
-    let a4 = a[4];
-    let a5 = a[5];
-    let a6 = a[6];
-    let a7 = a[7];
-    let a8 = a[8];
-    let a9 = a[9];
-    let a10 = a[10];
-    let a11 = a[11];
-    let a12 = a[12];
-    let a13 = a[13];
-    let a14 = a[14];
-    let a15 = a[15];
-    let a16 = a[16];
-    let a17 = a[17];
-    let a18 = a[18];
-    let a19 = a[19];
-    let a20 = a[20];
-    let a21 = a[21];
-    let a22 = a[22];
-    let a23 = a[23];
-    let a24 = a[24];
+    let [
+        a0,
+        a1,
+        a2,
+        a3,
+        a4,
+        a5,
+        a6,
+        a7,
+        a8,
+        a9,
+        a10,
+        a11,
+        a12,
+        a13,
+        a14,
+        a15,
+        a16,
+        a17,
+        a18,
+        a19,
+        a20,
+        a21,
+        a22,
+        a23,
+        a24,
+    ] = a;
     // theta
     let c0 = a0 ^ a5 ^ a10 ^ a15 ^ a20;
     let c1 = a1 ^ a6 ^ a11 ^ a16 ^ a21;
     let c2 = a2 ^ a7 ^ a12 ^ a17 ^ a22;
     let c3 = a3 ^ a8 ^ a13 ^ a18 ^ a23;
     let c4 = a4 ^ a9 ^ a14 ^ a19 ^ a24;
-    let d0 = c4 ^ (c1 << 1 | c1 >> 63);
-    let d1 = c0 ^ (c2 << 1 | c2 >> 63);
-    let d2 = c1 ^ (c3 << 1 | c3 >> 63);
-    let d3 = c2 ^ (c4 << 1 | c4 >> 63);
-    let d4 = c3 ^ (c0 << 1 | c0 >> 63);
+    let d0 = c4 ^ c1.rotate_left(1);
+    let d1 = c0 ^ c2.rotate_left(1);
+    let d2 = c1 ^ c3.rotate_left(1);
+    let d3 = c2 ^ c4.rotate_left(1);
+    let d4 = c3 ^ c0.rotate_left(1);
     // the rest, plane by plane: t is a lane after theta, b after rho and pi, e after chi and iota
     // y = 0
     let b0 = a0 ^ d0;
     let t6 = a6 ^ d1;
-    let b1 = t6 << 44 | t6 >> 20;
+    let b1 = t6.rotate_left(44);
     let t12 = a12 ^ d2;
-    let b2 = t12 << 43 | t12 >> 21;
+    let b2 = t12.rotate_left(43);
     let t18 = a18 ^ d3;
-    let b3 = t18 << 21 | t18 >> 43;
+    let b3 = t18.rotate_left(21);
     let t24 = a24 ^ d4;
-    let b4 = t24 << 14 | t24 >> 50;
+    let b4 = t24.rotate_left(14);
     let e0 = b0 ^ (b1 | b2) ^ rc;
     let e1 = b1 ^ (!b2 | b3);
     let e2 = b2 ^ (b3 & b4);
@@ -77,15 +76,15 @@ pub fn round(a: [u64; 25], rc: u64) -> [u64; 25]
     let e4 = b4 ^ (b0 & b1);
     // y = 1
     let t3 = a3 ^ d3;
-    let b5 = t3 << 28 | t3 >> 36;
+    let b5 = t3.rotate_left(28);
     let t9 = a9 ^ d4;
-    let b6 = t9 << 20 | t9 >> 44;
+    let b6 = t9.rotate_left(20);
     let t10 = a10 ^ d0;
-    let b7 = t10 << 3 | t10 >> 61;
+    let b7 = t10.rotate_left(3);
     let t16 = a16 ^ d1;
-    let b8 = t16 << 45 | t16 >> 19;
+    let b8 = t16.rotate_left(45);
     let t22 = a22 ^ d2;
-    let b9 = t22 << 61 | t22 >> 3;
+    let b9 = t22.rotate_left(61);
     let e5 = b5 ^ (b6 | b7);
     let e6 = b6 ^ (b7 & b8);
     let e7 = b7 ^ (b8 | !b9);
@@ -93,16 +92,16 @@ pub fn round(a: [u64; 25], rc: u64) -> [u64; 25]
     let e9 = b9 ^ (b5 & b6);
     // y = 2
     let t1 = a1 ^ d1;
-    let b10 = t1 << 1 | t1 >> 63;
+    let b10 = t1.rotate_left(1);
     let t7 = a7 ^ d2;
-    let b11 = t7 << 6 | t7 >> 58;
+    let b11 = t7.rotate_left(6);
     let t13 = a13 ^ d3;
-    let b12 = t13 << 25 | t13 >> 39;
+    let b12 = t13.rotate_left(25);
     let t19 = a19 ^ d4;
-    let b13 = t19 << 8 | t19 >> 56;
+    let b13 = t19.rotate_left(8);
     let not_b13 = !b13;
     let t20 = a20 ^ d0;
-    let b14 = t20 << 18 | t20 >> 46;
+    let b14 = t20.rotate_left(18);
     let e10 = b10 ^ (b11 | b12);
     let e11 = b11 ^ (b12 & b13);
     let e12 = b12 ^ (not_b13 & b14);
@@ -110,16 +109,16 @@ pub fn round(a: [u64; 25], rc: u64) -> [u64; 25]
     let e14 = b14 ^ (b10 & b11);
     // y = 3
     let t4 = a4 ^ d4;
-    let b15 = t4 << 27 | t4 >> 37;
+    let b15 = t4.rotate_left(27);
     let t5 = a5 ^ d0;
-    let b16 = t5 << 36 | t5 >> 28;
+    let b16 = t5.rotate_left(36);
     let t11 = a11 ^ d1;
-    let b17 = t11 << 10 | t11 >> 54;
+    let b17 = t11.rotate_left(10);
     let t17 = a17 ^ d2;
-    let b18 = t17 << 15 | t17 >> 49;
+    let b18 = t17.rotate_left(15);
     let not_b18 = !b18;
     let t23 = a23 ^ d3;
-    let b19 = t23 << 56 | t23 >> 8;
+    let b19 = t23.rotate_left(56);
     let e15 = b15 ^ (b16 & b17);
     let e16 = b16 ^ (b17 | b18);
     let e17 = b17 ^ (not_b18 | b19);
@@ -127,16 +126,16 @@ pub fn round(a: [u64; 25], rc: u64) -> [u64; 25]
     let e19 = b19 ^ (b15 | b16);
     // y = 4
     let t2 = a2 ^ d2;
-    let b20 = t2 << 62 | t2 >> 2;
+    let b20 = t2.rotate_left(62);
     let t8 = a8 ^ d3;
-    let b21 = t8 << 55 | t8 >> 9;
+    let b21 = t8.rotate_left(55);
     let not_b21 = !b21;
     let t14 = a14 ^ d4;
-    let b22 = t14 << 39 | t14 >> 25;
+    let b22 = t14.rotate_left(39);
     let t15 = a15 ^ d0;
-    let b23 = t15 << 41 | t15 >> 23;
+    let b23 = t15.rotate_left(41);
     let t21 = a21 ^ d1;
-    let b24 = t21 << 2 | t21 >> 62;
+    let b24 = t21.rotate_left(2);
     let e20 = b20 ^ (not_b21 & b22);
     let e21 = not_b21 ^ (b22 | b23);
     let e22 = b22 ^ (b23 & b24);

@@ -38,16 +38,12 @@ pub fn rounds(a: [u64; 25]) -> [u64; 25]
     // the table is copied once: an index into a constant would copy it at each turn
     let constants = RC;
     let mut s = complement_marked(a);
-    let mut i = 0;
-    while i < 12 {
+    for i in 0..12 {
         // two rounds a turn, by a loop that the compiler unrolls: with two calls it would not inline the round
-        let mut j = 0;
-        while j < 2 {
+        for j in 0..2 {
             let t = round(s, constants[2 * i + j]);
             s = t;
-            j += 1;
         }
-        i += 1;
     }
     complement_marked(s)
 }

@@ -1,18 +1,14 @@
-use mathlib.Core.Path.{◌≡◌, ap, ◌∙◌}
-use native.Mathlib.Omega.{arith}
+-- `lanes` reads each lane from its chunk. Assumes nothing.
 use borrow.Author.Rules.{rules}
-use lib.ListN.{set}
-use Rattle.keccak.proofs.Loops.{turns, turns_more, read_at, read_all}
+use mathlib.Core.List.{[]}
+use mathlib.Core.Path.{◌∙◌}
+use lib.ListN.{get_or}
+use Rattle.std.specs.Int.{w64, from_le_bytes}
+use Rattle.keccak.proofs.Chunks.{lanes_of_chunks, made_by}
 use Rattle.keccak.proofs.lanes.lanes.Goals as goal
 
-pub loop-i-init : goal.loop-i-init
-unfolding turns
-loop-i-init c = search rules
-
-pub loop-i-preserved : goal.loop-i-preserved
-loop-i-preserved c =
-    let l = c.loop-i in
-    (search rules, turns_more (read_at c.args.st.now) l.i _ l.invariant.1 (ap (set l.a l.i) c.lane.ensures))
-
 pub returns : goal.returns
-returns c = let e : c.loop-i.i ≡ 25 = omega arith in rw e at c.loop-i.invariant.1 ∙ read_all c.args.st.now
+returns c =
+    let chunks = c.as_chunks.result.0.now in
+    made_by _ _ (λ k. from_le_bytes w64 (get_or chunks k [])) 25 (λ k y q h call. search rules) c.from_fn.result c.from_fn.ensures.items
+    ∙ lanes_of_chunks c.args.st.now (rw c.told-st at c.as_chunks.ensures.front)

@@ -15,21 +15,19 @@ use Rattle.keccak.proofs.rounds.rounds.Goals as goal
 -- the second `refl` computes that the table has the constants of rc(t), once over all of it
 pub loop-i-init : goal.loop-i-init
 unfolding turns add_last register rc
-loop-i-init c = (search rules, refl, refl)
+loop-i-init c = (refl, refl)
 
 pub loop-j-init : goal.loop-j-init
 unfolding turns
-loop-j-init c = (search rules, refl)
+loop-j-init c = refl
 
 pub loop-j-preserved : goal.loop-j-preserved
 loop-j-preserved c =
     let inner = c.loop-j in
     let outer = c.loop-i in
-    let constant = constant_at _ outer.invariant.2 (2 * outer.i + inner.j) (omega arith) in (
-      search rules,
-      turns_more (λ k. round_at (2 * outer.i + k)) inner.j _ inner.invariant.1
-          (c.round-t.ensures ∙ ap (λ (lane : ℕ). complemented 64 (round_lanes 64 lane (complemented 64 inner.s))) constant),
-    )
+    let constant = constant_at _ outer.invariant.1 (2 * outer.i + inner.j) (omega arith) in
+    turns_more (λ k. round_at (2 * outer.i + k)) inner.j _ inner.invariant
+    (c.round-t.ensures ∙ ap (λ (lane : ℕ). complemented 64 (round_lanes 64 lane (complemented 64 inner.s))) constant)
 
 pub loop-i-preserved : goal.loop-i-preserved
 loop-i-preserved c =
@@ -38,10 +36,9 @@ loop-i-preserved c =
     let s₀ = c.complement_marked-s.result in
     let both : inner.j ≡ 2 = omega arith in
     let two-more : 2 * (outer.i + 1) ≡ 2 * outer.i + 2 = omega arith in (
-      search rules,
       rw two-more
-          ((rw both at inner.invariant.1) ∙ ap (turns (λ k. round_at (2 * outer.i + k)) 2) outer.invariant.1 ∙ turns_join round_at (2 * outer.i) 2 s₀),
-      outer.invariant.2,
+          ((rw both at inner.invariant) ∙ ap (turns (λ k. round_at (2 * outer.i + k)) 2) outer.invariant.0 ∙ turns_join round_at (2 * outer.i) 2 s₀),
+      outer.invariant.1,
     )
 
 pub returns : goal.returns
@@ -50,5 +47,5 @@ returns c =
     let a = c.args.a in
     let all : outer.i ≡ 12 = omega arith in
     c.complement_marked.ensures
-    ∙ ap (complemented 64) ((rw all at outer.invariant.1) ∙ ap (turns round_at 24) c.complement_marked-s.ensures)
+    ∙ ap (complemented 64) ((rw all at outer.invariant.0) ∙ ap (turns round_at 24) c.complement_marked-s.ensures)
     ∙ round_all a (below_fits 64 a (λ j. let f : Fits w64 (get_or a j 0) = search rules in omega arith)) (search rules)

@@ -1,18 +1,12 @@
 -- `rounds` is the 24 rounds. The outer loop's invariant: `s` is what the first `2 i` rounds make, and the table has the constants of rc(t),
 -- which the answer `loop-i-init` computes. The inner loop's: `s` is `j` rounds further. Assumes nothing.
 use mathlib.Core.Path.{◌≡◌}
-use Prim.Native.Nat.{◌≤◌, ◌+◌, ◌-◌, ◌*◌}
+use Prim.Native.Nat.{◌+◌, ◌*◌}
 use Rattle.keccak.proofs.Loops.{turns, round_at, round_constants}
 use Rattle.keccak.proofs.rounds.rounds.Given as goal
 
 abbrev pub invariant-loop-j : goal.invariant-loop-j
-invariant-loop-j l = (l.j ≤ 2) × (l.s ≡ turns (λ k. round_at (2 * l.i + k)) l.j l.initial.s)
-
-abbrev pub decreases-loop-j : goal.decreases-loop-j
-decreases-loop-j l = 2 - l.j
+invariant-loop-j l = l.s ≡ turns (λ k. round_at (2 * l.i + k)) l.j l.initial.s
 
 abbrev pub invariant-loop-i : goal.invariant-loop-i
-invariant-loop-i l = (l.i ≤ 12) × (l.s ≡ turns round_at (2 * l.i) l.initial.s) × (l.constants ≡ round_constants)
-
-abbrev pub decreases-loop-i : goal.decreases-loop-i
-decreases-loop-i l = 12 - l.i
+invariant-loop-i l = (l.s ≡ turns round_at (2 * l.i) l.initial.s) × (l.constants ≡ round_constants)
