@@ -1,23 +1,23 @@
 -- Laws of a call: the flags that are mixed in, the refusals, the opening, and the work's outcome. Assumes nothing.
-use Prim.Native.Nat.{ℕ, zero, suc, ◌+◌, ◌≤◌, ◌<◌}
+use Prim.Native.Nat.{ℕ, zero, suc, ◌≤◌, ◌<◌}
 use mathlib.Core.Path.{◌≡◌, refl, sym, ap, ◌∙◌}
-use mathlib.Core.List.{List, [], ◌∷◌}
+use mathlib.Core.List.{List}
 use mathlib.Core.Bool.{Bool, true, false, not, cond, ◌&&◌}
-use lib.Dec.{eqb, ltb, leb, lit≤}
+use lib.Dec.{ltb, leb, lit≤}
 use lib.ListN.{length, replicate, length-replicate}
 use borrow.Author.Tests.{lt-ltb, ltb-true, le-leb, leb-true}
 use native.Mathlib.Omega.{arith}
 use Rattle.laws.proofs.Bools.{and_left, and_right}
-use Rattle.strobe.specs.Duplex.{Sponge, Duplex, Rule, close, step, after, met, same}
-use Rattle.strobe.specs.Flags.{C, K, META_AD, has, operation_of, operation, is_recv_mac, absorbing, zeroing, overwriting, rule_of}
-use Rattle.strobe.specs.Loops.{at, duplex_of, Room, Fed, Ran, strobe_of}
+use Rattle.strobe.specs.Duplex.{Sponge, Duplex, Rule, met, same}
+use Rattle.strobe.specs.Flags.{K, META_AD, has, operation_of, operation, is_recv_mac, zeroing, overwriting, rule_of}
+use Rattle.strobe.specs.Loops.{duplex_of, Fed, Ran, strobe_of}
 use Rattle.strobe.specs.Session.{rate_of, sponge, sponge_of, seen, held, given, fresh_at, Is, Comes, Calls}
-use Rattle.strobe.specs.Strobe.{Strobe, disagrees, mixed, directed, forced, begin_op, opened, known_last, well_formed, refusal, verdict, worked, settled, call, unnamed, fresh}
+use Rattle.strobe.specs.Strobe.{Strobe, disagrees, opened, known_last, well_formed, refusal, verdict, worked, settled, call, unnamed, fresh}
 use Rattle.strobe.specs.Answer.{number}
 use Rattle.strobe.specs.declared.answer.Answer.{Answer}
 use Rattle.strobe.specs.declared.answer.Answer.TheVariants.{Done, KeyFlag, NoOperation, NotTheLast, CutMac, TooLong, NoLevel, NotASession, MacUnequal, BadSaved, ShortBuffer}
-use Rattle.strobe.specs.declared.opening.Thread.{Thread}
-use Rattle.strobe.specs.declared.duplex.Positions.{Positions}
+use Rattle.strobe.specs.declared.opening.Open.{Open}
+use Rattle.strobe.specs.declared.duplex.State.{State}
 use Rattle.strobe.specs.declared.flags.Operation.{Operation}
 use Rattle.strobe.specs.declared.flags.Operation.TheVariants.{Ratchet, RecvMac, Unknown}
 use Rattle.strobe.specs.declared.session.Outcome.{Outcome}
@@ -27,7 +27,7 @@ use Rattle.strobe.specs.declared.level.Level.TheVariants.{B128, B256}
 use Rattle.strobe.specs.declared.direction.Direction.{Direction}
 use Rattle.strobe.specs.declared.direction.Direction.TheVariants.{Neither, Sender, Receiver}
 use Rattle.strobe.specs.declared.session.Session.{Session}
-use Rattle.strobe.proofs.Data.{Ordered, room_of, after_room, out-kept, after_zeros}
+use Rattle.strobe.proofs.Data.{Ordered, out-kept, after_zeros}
 
 pub rate_small : (l : Level) → rate_of l ≤ 166
 rate_small B128 = lit≤ tt
@@ -70,49 +70,10 @@ module _ (rate : ℕ) (s : Strobe) where
   unfolding well_formed
   ordered_well h e = rw (lt-ltb s.duplex.pos rate h.below, le-leb s.duplex.begin s.duplex.pos h.begun, e)
 
-pub passed_ordered : (s : Session) (f : Flags) (more : Bool) (n : ℕ) (t : Answer) → number t ≡ refusal (rate_of s.level) (seen s) f more n → t ≡ Done → Ordered (rate_of s.level) (seen s).duplex
+pub passed : (s : Session) (f : Flags) (more : Bool) (n : ℕ) (t : Answer) → number t ≡ refusal (rate_of s.level) (seen s) f more n → t ≡ Done
+    → (s.pos < rate_of s.level) × (s.begin ≤ s.pos)
 unfolding refusal
-passed_ordered s f more n t e d = well_ordered (rate_of s.level) (seen s) (well _ _ (sym e ∙ ap number d))
-
--- ---- there is a place for the next byte once an operation is opened
-
-forced_room : (sp : Sponge) (f : Flags) (d : Duplex) → Room sp.rate d.pos d.begin
-    → Room sp.rate (forced sp f d).pos (forced sp f d).begin
-unfolding forced
-forced_room sp f d h = go (has f C && not (eqb d.pos 0))
-  where
-    go : (t : Bool) → Room sp.rate (cond t (close sp d) d).pos (cond t (close sp d) d).begin
-    go true = record { below = omega arith; begun = omega arith; small = h.small }
-    go false = h
-
--- two bytes and a forced close open an operation: the old begin position first, then the flags as mixed
-pub two_bytes_open : (sp : Sponge) (dir : Direction) (f : Flags) (d one two r : Duplex) (m : ℕ)
-    → one ≡ step sp absorbing (at d.st d.pos (d.pos + 1)) d.begin → m ≡ mixed dir f → two ≡ step sp absorbing one m
-    → r ≡ forced sp f two → r ≡ begin_op sp dir f d
-unfolding begin_op after
-two_bytes_open sp dir f d one two r m a b c e = rw (← b, ← a, ← c) e
-
-pub begun_room : {rate pos : ℕ} → pos < rate → rate ≤ 166 → Room rate pos (pos + 1)
-begun_room h k = record { below = h; begun = omega arith; small = k }
-
-pub opened_room : (s : Session) (f : Flags) (more : Bool) → Ordered (rate_of s.level) (seen s).duplex
-    → let d = (opened (sponge_of s.level) (seen s) f more).duplex in Room (rate_of s.level) d.pos d.begin
-unfolding opened begin_op
-opened_room s f true h = record { below = h.below; begun = omega arith; small = rate_small s.level }
-opened_room s f false h =
-    let sp = sponge_of s.level in
-    let d = at s.state s.pos (s.pos + 1) in
-    let two = s.begin ∷ mixed (directed s.direction f) f ∷ [] in
-    forced_room sp f (after sp absorbing d two)
-    (after_room sp absorbing d two (begun_room h.below (rate_small s.level)))
-
--- the same of what the code holds
-pub ready_room : (s : Session) (f : Flags) (more : Bool) (st : List ℕ) (ready : Thread) (rate : ℕ) → rate ≡ rate_of s.level
-    → Ordered (rate_of s.level) (seen s).duplex → strobe_of st ready ≡ opened (sponge rate) (seen s) f more → Room rate ready.places.pos ready.places.begin
-ready_room s f more st ready rate er h o =
-    let o' : strobe_of st ready ≡ opened (sponge_of s.level) (seen s) f more = rw er at o in
-    rw er
-    (room_of (sponge_of s.level) _ (duplex_of st ready.places) (ap (λ (t : Strobe). t.duplex) o') (opened_room s f more h))
+passed s f more n t e d = let o = well_ordered (rate_of s.level) (seen s) (well _ _ (sym e ∙ ap number d)) in (o.below, o.begun)
 
 -- ---- the outcome of a call
 
@@ -145,25 +106,25 @@ module _ (s : Session) (f : Flags) (more : Bool) (bs : List ℕ) where
       record { outcome = record { answer = rw (← e, u); session = rw (← e, u) }; lent = rw (← e, u) }
 
   -- opened and worked on, it is the definition's call
-  pub finish : (rate : ℕ) → rate ≡ rate_of s.level
-      → (st : List ℕ) (ready : Thread) (st' : List ℕ) (places : Positions) (a : Answer) (bs' : List ℕ)
-      → (t : Answer) → number t ≡ refusal (rate_of s.level) (seen s) f more (length bs) → t ≡ Done
-      → strobe_of st ready ≡ opened (sponge rate) (seen s) f more
-      → Ran rate (rule_of (operation f)) st ready.places bs st' places bs'
-      → number a ≡ verdict (sponge rate) (operation f) (duplex_of st ready.places) bs
-      → Calls s f more bs (record { session = held s.level (record { duplex = duplex_of st' places; direction = ready.direction; last = ready.last }); answer = a }) bs'
+  pub finish : (t : Answer) → number t ≡ refusal (rate_of s.level) (seen s) f more (length bs) → t ≡ Done
+      → (n : Open) → strobe_of n ≡ seen s → n.level ≡ s.level
+      → (o : Open) → strobe_of o ≡ opened (sponge_of n.level) (strobe_of n) f more → o.level ≡ n.level
+      → (st : State) (bs' : List ℕ) → Ran (rule_of (operation f)) o.state bs st bs'
+      → (a : Answer) → number a ≡ verdict (sponge o.state.rate) (operation f) (duplex_of o.state) bs
+      → Calls s f more bs (record { session = held o.level (record { duplex = duplex_of st; direction = o.direction; last = o.last }); answer = a }) bs'
   unfolding call settled worked
-  finish rate er st ready st' places a bs' t et ed o w v =
+  finish t et ed n en ln o eo lo st bs' w a v =
       let go = sym et ∙ ap number ed in
-      let o' : strobe_of st ready ≡ opened (sponge_of s.level) (seen s) f more = rw er at o in
-      let w' : Ran (rate_of s.level) (rule_of (operation f)) st ready.places bs st' places bs' = rw er at w in
-      let v' : number a ≡ verdict (sponge_of s.level) (operation f) (duplex_of st ready.places) bs = rw er at v in
+      let l = lo ∙ ln in
+      let e = rw (ln, en) at eo in
+      let r : o.state.rate ≡ rate_of s.level = o.rated ∙ ap rate_of l in
+      let fed = rw r at w.fed.duplex in
       record {
         outcome = record {
-          answer = rw (go, ← o') v';
-          session = rw (go, ← o') (ap (λ (d : Duplex). held s.level (record { duplex = d; direction = ready.direction; last = ready.last })) w'.fed);
+          answer = rw (go, ← e) (rw r at v);
+          session = rw (go, ← e, l) (ap (λ (d : Duplex). held s.level (record { duplex = d; direction = o.direction; last = o.last })) fed);
         };
-        lent = rw (go, ← o') w'.lent;
+        lent = rw (go, ← e) (rw r at w.lent);
       }
 
 -- only a received MAC is judged
@@ -181,9 +142,8 @@ verdict_mac sp o d bs n t e h g = rw (e, ← g) (h ∙ go t)
     go false = refl
 
 -- the work of an operation that keeps the lent bytes
-pub feeding : (rate : ℕ) (r : Rule) (st : List ℕ) (p : Positions) (bs : List ℕ) (st' : List ℕ) (p' : Positions) → ((x b : ℕ) → r.buffer x b ≡ b)
-    → Fed rate r st p bs st' p' → Ran rate r st p bs st' p' bs
-feeding rate r st p bs st' p' keep h = record { fed = h; lent = sym (out-kept (sponge rate) r (duplex_of st p) bs keep) }
+pub feeding : (r : Rule) (st : State) (bs : List ℕ) (st' : State) → ((x b : ℕ) → r.buffer x b ≡ b) → Fed r st bs st' → Ran r st bs st' bs
+feeding r st bs st' keep h = record { fed = h; lent = sym (out-kept (sponge st.rate) r (duplex_of st) bs keep) }
 
 -- a ratchet looks at no byte
 pub ratchet_any : (s : Session) (f : Flags) (more : Bool) (bs : List ℕ) (r : Outcome) → operation f ≡ Ratchet

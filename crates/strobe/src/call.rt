@@ -2,55 +2,46 @@
 ghost use Rattle.std.specs.Prelude.{◌≡◌, true, cond, replicate};
 ghost use Rattle.strobe.specs.Answer.{number, done, mac_unequal};
 ghost use Rattle.strobe.specs.Flags.{operation, rule_of};
-ghost use Rattle.strobe.specs.Loops.{thread_of, among, takers, changers, macs, ratchets, Room, Fed, Ran};
+ghost use Rattle.strobe.specs.Loops.{among, takers, changers, macs, ratchets, Fed, Ran};
 ghost use Rattle.strobe.specs.Session.{Calls};
 
 use crate::answer::Answer;
-use crate::duplex::Positions;
+use crate::duplex::State;
 use crate::flags::{Flags, Operation};
-use crate::opening::Thread;
+use crate::opening::Open;
+use crate::rule::{Absorbing, Copying, Deciphering, Enciphering, Overwriting, Squeezing};
 use crate::session::{Outcome, Session};
-use crate::{duplex, opening};
 
-// The rule of an operation that only takes bytes in: key overwrites, ad and clr absorb.
-fn take_in(
-    st: &mut [u8; 200],
-    places: Positions,
-    rate: usize,
-    flags: Flags,
-    bytes: &[u8],
-) -> Positions
-    requires { Room rate places.pos places.begin × (among takers flags ≡ true) }
-    ensures { Fed rate (rule_of (operation flags)) st.old places bytes.now st.new result }
-{
-    if flags.has(Flags::C) {
-        duplex::overwrite(st, places, rate, bytes)
-    } else {
-        duplex::absorb(st, places, rate, bytes)
+impl State {
+    // The rule of an operation that only takes bytes in: key overwrites, ad and clr absorb.
+    #[tactic(auto, using(crate::proofs::Twenty::takers_rule))]
+    fn take_in(&mut self, flags: Flags, bytes: &[u8])
+        requires { among takers flags ≡ true }
+        ensures { Fed (rule_of (operation flags)) self.old bytes.now self.new }
+    {
+        if flags.has(Flags::C) {
+            self.feed::<Overwriting>(bytes);
+        } else {
+            self.feed::<Absorbing>(bytes);
+        }
     }
-}
 
-// The rule of an operation that changes the lent bytes.
-fn change(
-    st: &mut [u8; 200],
-    places: Positions,
-    rate: usize,
-    flags: Flags,
-    buf: &mut [u8],
-) -> Positions
-    requires { Room rate places.pos places.begin × (among changers flags ≡ true) }
-    ensures { Ran rate (rule_of (operation flags)) st.old places buf.old st.new result buf.new }
-{
-    if flags.has(Flags::T) {
-        if flags.has(Flags::I) {
-            return duplex::exchange(st, places, rate, buf);
+    // The rule of an operation that changes the lent bytes.
+    #[tactic(auto, using(crate::proofs::Twenty::changers_rule))]
+    fn change(&mut self, flags: Flags, buf: &mut [u8])
+        requires { among changers flags ≡ true }
+        ensures { Ran (rule_of (operation flags)) self.old buf.old self.new buf.new }
+    {
+        if !flags.has(Flags::T) {
+            self.run::<Squeezing>(buf);
+        } else if flags.has(Flags::I) {
+            self.run::<Deciphering>(buf);
+        } else if flags.has(Flags::A) {
+            self.run::<Enciphering>(buf);
+        } else {
+            self.run::<Copying>(buf);
         }
-        if flags.has(Flags::A) {
-            return duplex::absorb_and_set(st, places, rate, buf);
-        }
-        return duplex::copy_state(st, places, rate, buf);
     }
-    duplex::squeeze(st, places, rate, buf)
 }
 
 // Whether a received MAC was the state's.
@@ -65,23 +56,8 @@ fn verdict(same: bool) -> Answer
 }
 
 impl Session {
-    // What a session is beside its state and level.
-    fn thread(self) -> Thread
-        ensures { result ≡ thread_of self }
-    {
-        let direction = self.direction;
-        let last = self.last;
-        Thread {
-            places: Positions {
-                pos: self.pos,
-                begin: self.begin,
-            },
-            direction,
-            last,
-        }
-    }
-
     // An operation that changes the lent bytes.
+    #[tactic(auto, using(crate::proofs::Calls::passed, crate::proofs::Calls::refused))]
     pub(crate) fn operate(self, flags: Flags, more: bool, buf: &mut [u8]) -> Outcome
         requires { among changers flags ≡ true }
         ensures { Calls self flags more buf.old result buf.new }
@@ -93,28 +69,14 @@ impl Session {
                 answer,
             };
         };
-        let level = self.level;
-        let rate = level.rate();
-        let mut state = self.state;
-        let thread = opening::opened(&mut state, self.thread(), rate, flags, more);
-        let places = change(&mut state, thread.places, rate, flags, buf);
-        let direction = thread.direction;
-        let last = thread.last;
-        let session = Session {
-            state,
-            level,
-            pos: places.pos,
-            begin: places.begin,
-            direction,
-            last,
-        };
-        Outcome {
-            session,
-            answer: Answer::Done,
-        }
+        let mut open = Open::new(self);
+        open.begin(flags, more);
+        open.state.change(flags, buf);
+        open.outcome(Answer::Done)
     }
 
     // An operation that only takes the lent bytes in.
+    #[tactic(auto, using(crate::proofs::Calls::passed, crate::proofs::Calls::refused))]
     pub(crate) fn operate_no_mutate(self, flags: Flags, more: bool, bytes: &[u8]) -> Outcome
         requires { among takers flags ≡ true }
         ensures { Calls self flags more bytes.now result bytes.now }
@@ -126,28 +88,14 @@ impl Session {
                 answer,
             };
         };
-        let level = self.level;
-        let rate = level.rate();
-        let mut state = self.state;
-        let thread = opening::opened(&mut state, self.thread(), rate, flags, more);
-        let places = take_in(&mut state, thread.places, rate, flags, bytes);
-        let direction = thread.direction;
-        let last = thread.last;
-        let session = Session {
-            state,
-            level,
-            pos: places.pos,
-            begin: places.begin,
-            direction,
-            last,
-        };
-        Outcome {
-            session,
-            answer: Answer::Done,
-        }
+        let mut open = Open::new(self);
+        open.begin(flags, more);
+        open.state.take_in(flags, bytes);
+        open.outcome(Answer::Done)
     }
 
     // A received MAC: one that is not the state's is taken in too.
+    #[tactic(auto, using(crate::proofs::Calls::passed, crate::proofs::Calls::refused))]
     pub(crate) fn generalized_recv_mac(self, flags: Flags, more: bool, mac: &[u8]) -> Outcome
         requires { among macs flags ≡ true }
         ensures { Calls self flags more mac.now result mac.now }
@@ -159,28 +107,14 @@ impl Session {
                 answer,
             };
         };
-        let level = self.level;
-        let rate = level.rate();
-        let mut state = self.state;
-        let thread = opening::opened(&mut state, self.thread(), rate, flags, more);
-        let checked = duplex::check_mac(&mut state, thread.places, rate, mac);
-        let direction = thread.direction;
-        let last = thread.last;
-        let session = Session {
-            state,
-            level,
-            pos: checked.places.pos,
-            begin: checked.places.begin,
-            direction,
-            last,
-        };
-        Outcome {
-            session,
-            answer: verdict(checked.same),
-        }
+        let mut open = Open::new(self);
+        open.begin(flags, more);
+        let same = open.state.check_mac(mac);
+        open.outcome(verdict(same))
     }
 
     // A ratchet: a count, no bytes.
+    #[tactic(auto, using(crate::proofs::Calls::passed))]
     pub(crate) fn generalized_ratchet(self, flags: Flags, more: bool, n: usize) -> Outcome
         requires { among ratchets flags ≡ true }
         ensures { Calls self flags more (replicate n 0) result (replicate n 0) }
@@ -192,43 +126,25 @@ impl Session {
                 answer,
             };
         };
-        let level = self.level;
-        let rate = level.rate();
-        let mut state = self.state;
-        let thread = opening::opened(&mut state, self.thread(), rate, flags, more);
-        let places = duplex::zero_state(&mut state, thread.places, rate, n);
-        let direction = thread.direction;
-        let last = thread.last;
-        let session = Session {
-            state,
-            level,
-            pos: places.pos,
-            begin: places.begin,
-            direction,
-            last,
-        };
-        Outcome {
-            session,
-            answer: Answer::Done,
-        }
+        let mut open = Open::new(self);
+        open.begin(flags, more);
+        open.state.zero(n);
+        open.outcome(Answer::Done)
     }
 
     // The call by number: the operation is the flag byte's. A ratchet's count is the buffer's length.
     pub fn call(self, flags: Flags, more: bool, buf: &mut [u8]) -> Outcome
         ensures { Calls self flags more buf.old result buf.new }
     {
-        let operation = flags.operation();
-        match operation {
-            Operation::Ad => self.operate_no_mutate(flags, more, buf),
-            Operation::Ratchet => self.generalized_ratchet(flags, more, buf.len()),
-            Operation::Key => self.operate_no_mutate(flags, more, buf),
-            Operation::Prf => self.operate(flags, more, buf),
-            Operation::SendClr => self.operate_no_mutate(flags, more, buf),
-            Operation::RecvClr => self.operate_no_mutate(flags, more, buf),
-            Operation::SendMac => self.operate(flags, more, buf),
+        match flags.operation() {
+            Operation::Ad | Operation::Key | Operation::SendClr | Operation::RecvClr => {
+                self.operate_no_mutate(flags, more, buf)
+            }
+            Operation::Prf | Operation::SendMac | Operation::SendEnc | Operation::RecvEnc => {
+                self.operate(flags, more, buf)
+            }
             Operation::RecvMac => self.generalized_recv_mac(flags, more, buf),
-            Operation::SendEnc => self.operate(flags, more, buf),
-            Operation::RecvEnc => self.operate(flags, more, buf),
+            Operation::Ratchet => self.generalized_ratchet(flags, more, buf.len()),
             Operation::Unknown => Outcome {
                 session: self,
                 answer: self.tested(flags, more, buf.len()),

@@ -1,243 +1,112 @@
-// Data through the duplex, block by block over a lent state: closing a block, and one loop for each rule.
-ghost use Rattle.std.specs.Prelude.{◌≡◌, ◌≤◌, ◌<◌, replicate};
-ghost use Rattle.strobe.specs.Duplex.{close, step};
-ghost use Rattle.strobe.specs.Flags.{absorbing, zeroing, overwriting, squeezing, copying, enciphering, deciphering};
-ghost use Rattle.strobe.specs.Loops.{at, duplex_of, Room, Fed, Ran, Tested};
-ghost use Rattle.strobe.specs.Session.{sponge};
+// Data through the duplex: the state with its positions, and a rule over bytes, block by block.
+ghost use Rattle.std.specs.Prelude.{◌≡◌, ◌+◌, ◌≤◌, ◌<◌, length, replicate};
 
 use crate::parts;
+use crate::rule::{ByteRule, Overwriting};
 
-// The position and the begin position.
-#[derive(Clone, Copy)]
-pub struct Positions {
+// The state at a rate, between two bytes of data: there is a place for the next byte, and a begin position fits a byte.
+#[derive(Drop)]
+pub struct State {
+    pub bytes: [u8; 200],
     pub pos: usize,
     pub begin: usize,
+    pub rate: usize,
+    ghost room: { pos < rate },
+    ghost begun: { begin ≤ rate },
+    ghost small: { rate ≤ 166 },
 }
 
-// Whether bytes were the state's, and the positions behind them.
-#[derive(Clone, Copy)]
-pub struct Checked {
-    pub same: bool,
-    pub places: Positions,
-}
+impl State {
+    ghost use Rattle.strobe.specs.Duplex.{close, close_if_full, step};
+    ghost use Rattle.strobe.specs.Flags.{zeroing, overwriting};
+    ghost use Rattle.strobe.specs.Loops.{at, duplex_of, Becomes, Fed, Ran, Tested};
+    ghost use Rattle.strobe.specs.Session.{sponge};
 
-// Closes the block; its positions are 0 then.
-pub fn run_f(st: &mut [u8; 200], pos: usize, begin: usize, rate: usize)
-    requires { (pos ≤ rate) × (begin ≤ rate) × (rate ≤ 166) }
-    ensures { st.new ≡ (close (sponge rate) (at st.old pos begin)).st }
-{
-    st[pos] = st[pos] ^ (begin as u8);
-    st[pos + 1] = st[pos + 1] ^ 0x04;
-    st[rate + 1] = st[rate + 1] ^ 0x80;
-    let permuted = keccak::permute(*st);
-    *st = permuted;
-}
-
-fn least(a: usize, b: usize) -> usize
-    requires { (0 < a) × (0 < b) }
-    ensures { (result ≤ a) × (result ≤ b) × (0 < result) }
-{
-    if a < b { a } else { b }
-}
-
-// One byte: an opening absorbs two of them.
-#[tactic(auto, unfolding(crate::specs::Duplex::step, crate::specs::Duplex::close_if_full))]
-pub fn absorb_byte(st: &mut [u8; 200], places: Positions, rate: usize, byte: u8) -> Positions
-    requires { Room rate places.pos places.begin }
-    ensures { duplex_of st.new result ≡ step (sponge rate) absorbing (duplex_of st.old places) byte }
-{
-    let pos = places.pos;
-    let begin = places.begin;
-    st[pos] = st[pos] ^ byte;
-    let next = pos + 1;
-    if next == rate {
-        run_f(st, next, begin, rate);
-        return Positions { pos: 0, begin: 0 };
+    // Closes the block at a position, which may be the rate.
+    #[tactic(auto, unfolding(crate::specs::Duplex::mix, crate::specs::Duplex::padded))]
+    pub fn run_f(&mut self, pos: usize)
+        requires { pos ≤ self.old.rate }
+        ensures { Becomes self.old (close (sponge self.old.rate) (at self.old.bytes pos self.old.begin)) self.new }
+    {
+        self.bytes[pos] ^= self.begin as u8;
+        self.bytes[pos + 1] ^= 0x04;
+        self.bytes[self.rate + 1] ^= 0x80;
+        self.bytes = keccak::permute(self.bytes);
+        self.pos = 0;
+        self.begin = 0;
     }
-    Positions { pos: next, begin }
-}
 
-pub fn absorb(st: &mut [u8; 200], places: Positions, rate: usize, bytes: &[u8]) -> Positions
-    requires { Room rate places.pos places.begin }
-    ensures { Fed rate absorbing st.old places bytes.now st.new result }
-{
-    let mut pos = places.pos;
-    let mut begin = places.begin;
-    let mut i: usize = 0;
-    while i < bytes.len() {
-        let size = least(rate - pos, bytes.len() - i);
-        let e = i + size;
-        parts::absorb(st, pos, &bytes[i..e]);
-        i = e;
-        pos += size;
-        if pos == rate {
-            run_f(st, pos, begin, rate);
-            pos = 0;
-            begin = 0;
+    // Moves the position on over n bytes of the block, and closes the block where it is full.
+    #[tactic(auto, unfolding(crate::specs::Duplex::close_if_full))]
+    fn advance(&mut self, n: usize)
+        requires { self.old.pos + n ≤ self.old.rate }
+        ensures { Becomes self.old (close_if_full (sponge self.old.rate) (at self.old.bytes (self.old.pos + n) self.old.begin)) self.new }
+    {
+        let pos = self.pos + n;
+        if pos == self.rate {
+            self.run_f(pos);
+        } else {
+            self.pos = pos;
         }
     }
-    Positions { pos, begin }
-}
 
-pub fn absorb_and_set(
-    st: &mut [u8; 200],
-    places: Positions,
-    rate: usize,
-    buf: &mut [u8],
-) -> Positions
-    requires { Room rate places.pos places.begin }
-    ensures { Ran rate enciphering st.old places buf.old st.new result buf.new }
-{
-    let mut pos = places.pos;
-    let mut begin = places.begin;
-    let mut i: usize = 0;
-    while i < buf.len() {
-        let size = least(rate - pos, buf.len() - i);
-        let e = i + size;
-        parts::absorb_and_set(st, pos, &mut buf[i..e]);
-        i = e;
-        pos += size;
-        if pos == rate {
-            run_f(st, pos, begin, rate);
-            pos = 0;
-            begin = 0;
+    // One byte of data.
+    #[tactic(auto, unfolding(crate::specs::Duplex::step))]
+    pub fn meet<R: ByteRule>(&mut self, byte: u8)
+        ensures { Becomes self.old (step (sponge self.old.rate) R.rule (duplex_of self.old) byte) self.new }
+    {
+        self.bytes[self.pos] = R::state(self.bytes[self.pos], byte);
+        self.advance(1);
+    }
+
+    // Bytes that are only read.
+    pub fn feed<R: ByteRule>(&mut self, bytes: &[u8])
+        ensures { Fed R.rule self.old bytes.now self.new }
+    {
+        let mut rest = bytes;
+        while !rest.is_empty() {
+            let (block, behind) = rest.split_at(rest.len().min(self.rate - self.pos));
+            parts::feed::<R>(&mut self.bytes, self.pos, block);
+            self.advance(block.len());
+            rest = behind;
         }
     }
-    Positions { pos, begin }
-}
 
-pub fn copy_state(st: &mut [u8; 200], places: Positions, rate: usize, buf: &mut [u8]) -> Positions
-    requires { Room rate places.pos places.begin }
-    ensures { Ran rate copying st.old places buf.old st.new result buf.new }
-{
-    let mut pos = places.pos;
-    let mut begin = places.begin;
-    let mut i: usize = 0;
-    while i < buf.len() {
-        let size = least(rate - pos, buf.len() - i);
-        let e = i + size;
-        parts::copy_state(st, pos, &mut buf[i..e]);
-        i = e;
-        pos += size;
-        if pos == rate {
-            run_f(st, pos, begin, rate);
-            pos = 0;
-            begin = 0;
+    // Lent bytes, which change.
+    pub fn run<R: ByteRule>(&mut self, buf: &mut [u8])
+        ensures { Ran R.rule self.old buf.old self.new buf.new }
+    {
+        let mut i = 0;
+        while i < buf.len() {
+            let size = (self.rate - self.pos).min(buf.len() - i);
+            parts::run::<R>(&mut self.bytes, self.pos, &mut buf[i..i + size]);
+            self.advance(size);
+            i += size;
         }
     }
-    Positions { pos, begin }
-}
 
-pub fn exchange(st: &mut [u8; 200], places: Positions, rate: usize, buf: &mut [u8]) -> Positions
-    requires { Room rate places.pos places.begin }
-    ensures { Ran rate deciphering st.old places buf.old st.new result buf.new }
-{
-    let mut pos = places.pos;
-    let mut begin = places.begin;
-    let mut i: usize = 0;
-    while i < buf.len() {
-        let size = least(rate - pos, buf.len() - i);
-        let e = i + size;
-        parts::exchange(st, pos, &mut buf[i..e]);
-        i = e;
-        pos += size;
-        if pos == rate {
-            run_f(st, pos, begin, rate);
-            pos = 0;
-            begin = 0;
+    // So many zeros in the place of state bytes.
+    pub fn zero(&mut self, n: usize)
+        ensures { Fed zeroing self.old (replicate n 0) self.new }
+    {
+        let mut left = n;
+        while left > 0 {
+            let size = left.min(self.rate - self.pos);
+            self.bytes[self.pos..self.pos + size].fill(0);
+            self.advance(size);
+            left -= size;
         }
     }
-    Positions { pos, begin }
-}
 
-pub fn overwrite(st: &mut [u8; 200], places: Positions, rate: usize, bytes: &[u8]) -> Positions
-    requires { Room rate places.pos places.begin }
-    ensures { Fed rate overwriting st.old places bytes.now st.new result }
-{
-    let mut pos = places.pos;
-    let mut begin = places.begin;
-    let mut i: usize = 0;
-    while i < bytes.len() {
-        let size = least(rate - pos, bytes.len() - i);
-        let e = i + size;
-        parts::overwrite(st, pos, &bytes[i..e]);
-        i = e;
-        pos += size;
-        if pos == rate {
-            run_f(st, pos, begin, rate);
-            pos = 0;
-            begin = 0;
+    // Takes a received MAC in, and says whether its bytes were the state's.
+    pub fn check_mac(&mut self, mac: &[u8]) -> bool
+        ensures { Tested overwriting self.old mac.now self.new result }
+    {
+        let mut same = true;
+        for &byte in mac {
+            same &= self.bytes[self.pos] == byte;
+            self.meet::<Overwriting>(byte);
         }
-    }
-    Positions { pos, begin }
-}
-
-pub fn squeeze(st: &mut [u8; 200], places: Positions, rate: usize, buf: &mut [u8]) -> Positions
-    requires { Room rate places.pos places.begin }
-    ensures { Ran rate squeezing st.old places buf.old st.new result buf.new }
-{
-    let mut pos = places.pos;
-    let mut begin = places.begin;
-    let mut i: usize = 0;
-    while i < buf.len() {
-        let size = least(rate - pos, buf.len() - i);
-        let e = i + size;
-        parts::squeeze(st, pos, &mut buf[i..e]);
-        i = e;
-        pos += size;
-        if pos == rate {
-            run_f(st, pos, begin, rate);
-            pos = 0;
-            begin = 0;
-        }
-    }
-    Positions { pos, begin }
-}
-
-pub fn zero_state(st: &mut [u8; 200], places: Positions, rate: usize, n: usize) -> Positions
-    requires { Room rate places.pos places.begin }
-    ensures { Fed rate zeroing st.old places (replicate n 0) st.new result }
-{
-    let mut pos = places.pos;
-    let mut begin = places.begin;
-    let mut i: usize = 0;
-    while i < n {
-        let size = least(rate - pos, n - i);
-        let e = i + size;
-        parts::zero_state(st, pos, size);
-        i = e;
-        pos += size;
-        if pos == rate {
-            run_f(st, pos, begin, rate);
-            pos = 0;
-            begin = 0;
-        }
-    }
-    Positions { pos, begin }
-}
-
-// Takes a received MAC in, and compares it with the state bytes that it meets.
-pub fn check_mac(st: &mut [u8; 200], places: Positions, rate: usize, mac: &[u8]) -> Checked
-    requires { Room rate places.pos places.begin }
-    ensures { Tested rate overwriting st.old places mac.now st.new result }
-{
-    let mut same = true;
-    let mut pos = places.pos;
-    let mut begin = places.begin;
-    let mut i: usize = 0;
-    while i < mac.len() {
-        same = same & (st[pos] == mac[i]);
-        st[pos] = mac[i];
-        pos += 1;
-        if pos == rate {
-            run_f(st, pos, begin, rate);
-            pos = 0;
-            begin = 0;
-        }
-        i += 1;
-    }
-    Checked {
-        same,
-        places: Positions { pos, begin },
+        same
     }
 }

@@ -13,6 +13,7 @@ mod opening;
 mod parts;
 mod pieces;
 mod refusal;
+mod rule;
 mod session;
 
 pub use answer::Answer;
