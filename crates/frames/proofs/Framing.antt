@@ -1,160 +1,145 @@
--- Laws of frames: the parts of a line's buffer, what a line asks for, and when an answer tells what comes of it. Assumes nothing.
-use Prim.Native.Nat.{ℕ, suc, ◌+◌, ◌*◌, ◌-◌, ◌≤◌, ◌<◌}
+-- Laws of frames: what a line asks for, and what an outcome tells. Assumes nothing.
 use mathlib.Core.Path.{◌≡◌, refl, sym, ap, ◌∙◌}
-use mathlib.Core.List.{List, [], ◌∷◌, ◌++◌}
-use mathlib.Core.Bool.{Bool, true, false, cond, ◌&&◌}
+use Prim.Native.Nat.{ℕ, ◌+◌, ◌-◌, ◌*◌, ◌≤◌}
 use native.Mathlib.Omega.{arith}
+use mathlib.Core.List.{List, [], ◌∷◌, ◌++◌}
+use mathlib.Core.Bool.{Bool, true, false, not, cond, ◌&&◌, and-false}
 use lib.Dec.{eqb, leb}
-use lib.ListN.{length, take, drop, set, get_or, replicate, replicate-append-replicate}
-use lib.Seq.{length-take-le, take-add, take_at, drop_at, take-suc-set, drop-append-le, slice_empty, slice-cons, length-slice}
-use borrow.Author.Tests.{eq-eqb, ne_eqb, le-leb, lt-leb}
-use borrow.Rule.Slice.PartMut.{put_mid, post_of, mid_len, same_len_mid}
-use Rattle.strobe.specs.Answer.{number, done, bad_line}
+use lib.ListN.{length, get_or, replicate, take, drop, length-take, length-drop, take-append-drop}
+use lib.Seq.{take_at, drop-append-le}
+use borrow.Author.Tests.{le-leb}
+use Rattle.std.proofs.lemmas.List.{take_rest}
+use Rattle.std.specs.Prelude.{Option, Some, None, is_some, option_copied, ◌⊎◌}
+use Rattle.std.specs.Borrow.{Bor}
+use Rattle.std.proofs.Common.{inl, inr}
 use Rattle.strobe.specs.Flags.{M, RATCHET, META_RATCHET, flags, has, operation}
 use Rattle.strobe.specs.Loops.{ratchets}
-use Rattle.strobe.specs.Session.{given, Is, Calls}
-use Rattle.strobe.specs.declared.answer.Answer.TheVariants.{Done}
+use Rattle.strobe.specs.Session.{Calls}
 use Rattle.strobe.specs.declared.flags.Flags.{Flags}
 use Rattle.strobe.specs.declared.flags.Operation.{Operation}
-use Rattle.strobe.specs.declared.flags.Operation.TheVariants.{Ratchet, Prf}
+use Rattle.strobe.specs.declared.flags.Operation.TheVariants.{Ad, Ratchet, Key, Prf, SendClr, RecvClr, SendMac, RecvMac, SendEnc, RecvEnc, Unknown}
 use Rattle.strobe.specs.declared.session.Outcome.{Outcome}
 use Rattle.strobe.specs.declared.session.Session.{Session}
 use Rattle.strobe.proofs.Twenty.{at_each, handled_as}
-use Rattle.frames.specs.Hexadecimal.{Read, misshapen, bytes}
-use Rattle.frames.specs.Frames.{Said, limit, level_of, creating, opening, big_endian, count_of, counted, buffer_of, shows, refused, calling, framed}
+use Rattle.frames.specs.Hexadecimal.{misshapen, bytes}
+use Rattle.frames.specs.Frames.{limit, big_endian, count_of, counted, buffer_of, refused, calling, framed}
 use Rattle.frames.specs.Steps.{line_limit, part_of, read_of}
-use Rattle.frames.specs.Inside.{whole_line, quiet, Tells}
-use Rattle.frames.specs.declared.frame.Called.{Called}
 use Rattle.frames.specs.declared.line.Line.{Line}
+use Rattle.frames.proofs.Hexadecimal.{not_bytes, bytes_one}
+use Rattle.frames.specs.Inside.{said, counted_by, unshown}
 
--- ---- the parts of a buffer
-
--- a part as the code lends it
-pub part_is_dropped_and_taken : (a e : ℕ) (b : List ℕ) → a ≤ e → e ≤ length b → take (e - a) (drop a b) ≡ drop a (take e b)
-part_is_dropped_and_taken a e b h k =
-    let whole : a + (e - a) ≡ e = omega arith in
-    let cut : take e b ≡ take a b ++ take (e - a) (drop a b) = rw whole at (take-add a (e - a) b) in
-    sym (ap (drop a) cut ∙ drop_at (take a b) (take (e - a) (drop a b)) a (length-take-le a b (omega arith)))
-
--- as many bytes put into a part stand there
-pub put_part_stands : (a e : ℕ) (b ys : List ℕ) → a ≤ e → e ≤ length b → length ys ≡ length (take (e - a) (drop a b))
-    → drop a (take e (put_mid a (e - a) b ys)) ≡ ys
-put_part_stands a e b ys h k n =
-    let rest = post_of a (e - a) b in
-    sym (part_is_dropped_and_taken a e (put_mid a (e - a) b ys) h (rw (same_len_mid a (e - a) b ys n) k))
-    ∙ ap (take (e - a)) (drop_at (take a b) (ys ++ rest) a (length-take-le a b (omega arith)))
-    ∙ take_at ys rest (e - a) (n ∙ mid_len a e b k)
-
-pub zeros_one_more : (b : List ℕ) (i : ℕ) → 2 + i < length b → drop 2 (take (2 + i) b) ≡ replicate i 0
-    → drop 2 (take (2 + (i + 1)) (set b (2 + i) 0)) ≡ replicate (i + 1) 0
-zeros_one_more b i h e =
-    let next : 2 + (i + 1) ≡ suc (2 + i) = omega arith in
-    let front : 2 ≤ length (take (2 + i) b) = rw (length-take-le (2 + i) b (omega arith)) (omega arith) in
-    rw (next, take-suc-set b (2 + i) 0 h, drop-append-le 2 (take (2 + i) b) (0 ∷ []) front, e) (replicate-append-replicate i 1 0)
-
-pub count_of_four_bytes : (b : List ℕ) → 6 ≤ length b
-    → count_of (drop 2 (take 6 b)) ≡ ((get_or b 2 0 * 256 + get_or b 3 0) * 256 + get_or b 4 0) * 256 + get_or b 5 0
+pub four_bytes_count : (payload : List ℕ) → length payload ≡ 4
+    → count_of payload ≡ get_or payload 0 0 * 16777216 + get_or payload 1 0 * 65536 + get_or payload 2 0 * 256 + get_or payload 3 0
 unfolding big_endian
-count_of_four_bytes b h =
-    rw (slice-cons 2 6 b 0 (omega arith) h, slice-cons 3 6 b 0 (omega arith) h, slice-cons 4 6 b 0 (omega arith) h, slice-cons 5 6 b 0 (omega arith) h, slice_empty 6 b)
-    (omega arith)
+four_bytes_count (a ∷ b ∷ c ∷ d ∷ []) h = omega arith
+four_bytes_count [] h = absurd (omega arith)
+four_bytes_count (a ∷ []) h = absurd (omega arith)
+four_bytes_count (a ∷ b ∷ []) h = absurd (omega arith)
+four_bytes_count (a ∷ b ∷ c ∷ []) h = absurd (omega arith)
+four_bytes_count (a ∷ b ∷ c ∷ d ∷ e ∷ payload) h = absurd (omega arith)
 
 -- ---- what a line asks for
 
-pub another_length_is_no_count : (b : List ℕ) (n : ℕ) (small : Bool) → n ≤ length b → (n ≡ 6 → ⊥) → counted (drop 2 (take n b)) small ≡ misshapen
-unfolding counted
-another_length_is_no_count b n small h k = rw (ne_eqb (length (drop 2 (take n b))) 4 (λ z. let l = length-slice 2 n b h in k (omega arith)))
+module _ (payload : List ℕ) where
+  pub no_count : counted_by payload ≡ None → (small : Bool) → counted payload small ≡ misshapen
+  unfolding counted counted_by
+  no_count h small = go (eqb (length payload) 4) h
+    where
+      go : (t : Bool) → cond t (Some (count_of payload)) None ≡ None → cond (t && small) (bytes (replicate (count_of payload) 0)) misshapen ≡ misshapen
+      go true e = absurd (cc)
+      go false e = refl
 
-module _ (b : List ℕ) (n k : ℕ) (six : n ≡ 6) (long : n ≤ length b) (count : k ≡ count_of (drop 2 (take 6 b))) where
-  four_bytes_count : (small : Bool) → counted (drop 2 (take n b)) small ≡ cond small (bytes (replicate k 0)) misshapen
-  unfolding counted
-  four_bytes_count small = rw (six, eq-eqb (length (drop 2 (take 6 b))) 4 (length-slice 2 6 b (omega arith)), count)
+  pub some_count : (n : ℕ) → counted_by payload ≡ Some n → (count_of payload ≡ n) × ((small : Bool) → counted payload small ≡ cond small (bytes (replicate n 0)) misshapen)
+  unfolding counted counted_by
+  some_count n h = go (eqb (length payload) 4) h
+    where
+      go : (t : Bool) → cond t (Some (count_of payload)) None ≡ Some n
+          → (count_of payload ≡ n) × ((small : Bool) → cond (t && small) (bytes (replicate (count_of payload) 0)) misshapen ≡ cond small (bytes (replicate n 0)) misshapen)
+      go true e = let same : count_of payload ≡ n = cc in (same, λ small. rw same)
+      go false e = absurd (cc)
 
-  pub ratchet_asks_zeros : buffer_of Ratchet (drop 2 (take n b)) ≡ bytes (replicate k 0)
-  ratchet_asks_zeros = four_bytes_count true
+  pub plain_buffer : (o : Operation) → (o ≡ Ratchet → ⊥) → (o ≡ Prf → ⊥) → (o ≡ SendMac → ⊥) → buffer_of o payload ≡ bytes payload
+  plain_buffer Ad r p m = refl
+  plain_buffer Ratchet r p m = absurd (r refl)
+  plain_buffer Key r p m = refl
+  plain_buffer Prf r p m = absurd (p refl)
+  plain_buffer SendClr r p m = refl
+  plain_buffer RecvClr r p m = refl
+  plain_buffer SendMac r p m = absurd (m refl)
+  plain_buffer RecvMac r p m = refl
+  plain_buffer SendEnc r p m = refl
+  plain_buffer RecvEnc r p m = refl
+  plain_buffer Unknown r p m = refl
 
-  pub draw_asks_zeros_within_the_limit : buffer_of Prf (drop 2 (take n b)) ≡ cond (leb k limit) (bytes (replicate k 0)) misshapen
-  draw_asks_zeros_within_the_limit =
-      let same : count_of (drop 2 (take n b)) ≡ k = rw six (sym count) in
-      rw same (four_bytes_count (leb k limit))
+  pub draws_by_count : (o : Operation) → (o ≡ Prf) ⊎ (o ≡ SendMac) → buffer_of o payload ≡ counted payload (leb (count_of payload) limit)
+  draws_by_count o (inl e) = rw e
+  draws_by_count o (inr e) = rw e
 
-pub other_line_is_misshapen : (b : List ℕ) (l : Line) {t : Bool} → t ≡ whole_line l → t ≡ false → read_of (part_of b l) ≡ misshapen
-other_line_is_misshapen b l tested h = rw (sym tested ∙ h)
+said_most : (l : Line) (bs : List ℕ) → length l.buffer ≡ line_limit → read_of (part_of l) ≡ bytes bs → length bs ≤ line_limit
+said_most l bs long h = go (l.good && not (is_some l.upper)) h
+  where
+    go : (t : Bool) → cond t (bytes (take l.count l.buffer)) misshapen ≡ bytes bs → length bs ≤ line_limit
+    go true e = rw (sym (bytes_one e)) (omega (arith, length-take l.count l.buffer))
+    go false e = absurd (not_bytes e)
 
-short_bytes_refused : (s : Session) (bs : List ℕ) → length bs < 2 → framed s (bytes bs) ≡ refused s
+lent_from : (l : Line) (bs : List ℕ) (n : ℕ) → read_of (part_of l) ≡ bytes bs → 2 ≤ length bs → n ≡ length bs - 2 → take n (drop 2 l.buffer) ≡ take (length bs - 2) (drop 2 bs)
+lent_from l bs n h some e = go (l.good && not (is_some l.upper)) h
+  where
+    go : (t : Bool) → cond t (bytes (take l.count l.buffer)) misshapen ≡ bytes bs → take n (drop 2 l.buffer) ≡ take (length bs - 2) (drop 2 bs)
+    go true h =
+        let rest = drop l.count l.buffer in
+        let split : l.buffer ≡ bs ++ rest = sym (take-append-drop l.count l.buffer) ∙ ap (λ (x : List ℕ). x ++ rest) (bytes_one h) in
+        rw (take_rest bs 2)
+        (ap (λ (x : List ℕ). take n (drop 2 x)) split
+        ∙ ap (take n) (drop-append-le 2 bs rest some)
+        ∙ take_at (drop 2 bs) rest n (omega (arith, length-drop 2 bs)))
+    go false h = absurd (not_bytes h)
+
+line_calls : (s : Session) (bs : List ℕ) → length bs ≤ line_limit → 2 ≤ length bs → get_or bs 1 0 ≤ 1 → (o : Operation) → operation (flags (get_or bs 0 0)) ≡ o
+    → framed s (bytes bs) ≡ calling s (flags (get_or bs 0 0)) (eqb (get_or bs 1 0) 1) (buffer_of o (drop 2 bs))
 unfolding framed
-short_bytes_refused s [] h = refl
-short_bytes_refused s (f ∷ []) h = refl
-short_bytes_refused s (f ∷ more ∷ bs) h = absurd (omega arith)
+line_calls s [] most some small o e = absurd (omega arith)
+line_calls s (f ∷ []) most some small o e = absurd (omega arith)
+line_calls s (f ∷ more ∷ payload) most some small o e = rw (le-leb more 1 small, le-leb (length payload) limit (omega arith), e)
 
-module _ (s : Session) (b : List ℕ) (l : Line) {t : Bool} (tested : t ≡ whole_line l) (passed : t ≡ true) (long : l.count ≤ length b) where
-  reads_bytes : read_of (part_of b l) ≡ bytes (take l.count b)
-  reads_bytes = rw (sym tested ∙ passed)
+-- ---- a line that says bytes
 
-  -- a first line
+module _ (l : Line) (o : Option (Bor (List ℕ))) (b : Bor (List ℕ)) (told : said (option_copied o) ≡ read_of (part_of l)) (is : o ≡ Some b)
+    (long : length l.buffer ≡ line_limit) (some : 2 ≤ length b.now) where
+  abbrev payload : List ℕ
+  payload = take (length b.now - 2) (drop 2 b.now)
 
-  pub empty_line_opens_nothing : l.count ≡ 0 → opening s (read_of (part_of b l)) ≡ refused s
-  unfolding opening
-  empty_line_opens_nothing h = rw (reads_bytes, h)
+  reads_bytes : read_of (part_of l) ≡ bytes b.now
+  reads_bytes = sym told ∙ ap (λ (o : Option (Bor (List ℕ))). said (option_copied o)) is
 
-  pub line_opens : 0 < l.count
-      → opening s (read_of (part_of b l)) ≡ cond (leb (l.count - 1) limit) (creating (drop 1 (take l.count b)) (level_of (get_or b 0 0))) (refused s)
-  unfolding opening
-  line_opens h = rw (reads_bytes, ← length-slice 1 l.count b long, slice-cons 0 l.count b 0 h long)
+  pub length-payload : length payload ≡ length b.now - 2
+  length-payload = omega (arith, length-take (length b.now - 2) (drop 2 b.now), length-drop 2 b.now)
 
-  -- another line
+  pub payload_fits : length payload ≤ limit
+  payload_fits = omega (arith, length-payload, said_most l b.now long reads_bytes)
 
-  pub short_line_refused : l.count < 2 → framed s (read_of (part_of b l)) ≡ refused s
-  short_line_refused h = rw reads_bytes (short_bytes_refused s (take l.count b) (omega (arith, length-take-le l.count b long)))
+  -- it stands in the buffer
+  pub payload_is_lent : take (length payload + 2 - 2) (drop 2 l.buffer) ≡ payload
+  payload_is_lent = lent_from l b.now (length payload + 2 - 2) reads_bytes some (omega (arith, length-payload))
 
-  module _ (some : 2 ≤ l.count) where
-    two_bytes_first : take l.count b ≡ get_or b 0 0 ∷ get_or b 1 0 ∷ drop 2 (take l.count b)
-    two_bytes_first =
-        slice-cons 0 l.count b 0 (omega arith) long ∙ ap (λ (rest : List ℕ). get_or b 0 0 ∷ rest) (slice-cons 1 l.count b 0 (omega arith) long)
+  module _ (s : Session) (small : get_or b.now 1 0 ≤ 1) (op : Operation) (calls : op ≡ operation (flags (get_or b.now 0 0))) where
+    pub said_calls : framed s (read_of (part_of l)) ≡ calling s (flags (get_or b.now 0 0)) (eqb (get_or b.now 1 0) 1) (buffer_of op payload)
+    said_calls = rw (reads_bytes, take_rest b.now 2) (line_calls s b.now (said_most l b.now long reads_bytes) some small op (sym calls))
 
-    pub large_more_refused : 1 < get_or b 1 0 → framed s (read_of (part_of b l)) ≡ refused s
-    unfolding framed
-    large_more_refused h = rw (reads_bytes, two_bytes_first, lt-leb (get_or b 1 0) 1 h)
-
-    pub line_calls : get_or b 1 0 ≤ 1 → l.count ≤ line_limit → (o : Operation) → operation (flags (get_or b 0 0)) ≡ o
-        → framed s (read_of (part_of b l)) ≡ calling s (flags (get_or b 0 0)) (eqb (get_or b 1 0) 1) (buffer_of o (drop 2 (take l.count b)))
-    unfolding framed
-    line_calls h k o e =
-        let payload = drop 2 (take l.count b) in
-        let small : leb (length payload) limit ≡ true = le-leb (length payload) limit (omega (arith, length-slice 2 l.count b long)) in
-        ap (framed s) reads_bytes ∙ ap (λ (bs : List ℕ). framed s (bytes bs)) two_bytes_first ∙ rw (le-leb (get_or b 1 0) 1 h, small, e)
+    pub refused_misshapen : buffer_of op payload ≡ misshapen → refused s ≡ framed s (read_of (part_of l))
+    unfolding calling
+    refused_misshapen e = rw (said_calls, e)
 
 -- ---- the two ratchets
 
-pub ratchet_by_its_bit : (f : Flags) → operation f ≡ Ratchet → f ≡ cond (has f M) META_RATCHET RATCHET
+ratchet_by_its_bit : (f : Flags) → operation f ≡ Ratchet → f ≡ cond (has f M) META_RATCHET RATCHET
 ratchet_by_its_bit f e = at_each (λ (f : Flags). f ≡ cond (has f M) META_RATCHET RATCHET) ratchets (refl, (refl, tt)) f (handled_as f Ratchet e refl)
 
--- ---- what an answer tells
-
-quiet_tells : (t : Said) (r : Called) (b : List ℕ) → r ≡ quiet t.session t.answer → t.shown ≡ [] → Tells t r b
-quiet_tells t r b e n = rw e (record { answer = refl; session = refl; from = omega arith; fits = omega arith; shown = slice_empty 2 b ∙ sym n })
-
-pub refused_tells : (t : Said) (s : Session) (r : Called) (b : List ℕ) → t ≡ refused s → r ≡ quiet s bad_line → Tells t r b
-refused_tells t s r b e d = rw e (quiet_tells (refused s) r b d refl)
-
-pub misshapen_tells : (s : Session) (f : Flags) (more : Bool) (line : Read) (r : Called) (b : List ℕ) → line ≡ misshapen → r ≡ quiet s bad_line
-    → Tells (calling s f more line) r b
+-- either of the two
+pub ratcheted : (s : Session) (f : Flags) (more : Bool) (n : ℕ) (meta : Bool) (o : Outcome) → operation f ≡ Ratchet → meta ≡ has f M
+    → Calls s (cond meta META_RATCHET RATCHET) more (replicate n 0) o (replicate n 0) → unshown o ≡ calling s f more (bytes (replicate n 0))
 unfolding calling
-misshapen_tells s f more line r b e d = rw e (refused_tells (calling s f more misshapen) s r b refl d)
-
-pub outcome_tells : (t : Said) (o : Outcome) (r : Called) (b : List ℕ) → Is (given t.answer t.session) o → r ≡ quiet o.session (number o.answer)
-    → t.shown ≡ [] → Tells t r b
-outcome_tells t o r b h e n = quiet_tells t r b (rw (h.session, h.answer) at e) n
-
-module _ (s : Session) (f : Flags) (more : Bool) (bs : List ℕ) (o : Outcome) (bs' : List ℕ) (h : Calls s f more bs o bs') where
-  pub unshown_tells : (r : Called) (b : List ℕ) → r ≡ quiet o.session (number o.answer)
-      → eqb (number o.answer) done && shows (operation f) ≡ false → Tells (calling s f more (bytes bs)) r b
-  unfolding calling
-  unshown_tells r b e n = outcome_tells (calling s f more (bytes bs)) o r b h.outcome e (rw (rw h.outcome.answer at n))
-
-  pub shown_tells : (e : ℕ) (b : List ℕ) → o.answer ≡ Done → shows (operation f) ≡ true → 2 ≤ e → e ≤ line_limit → drop 2 (take e b) ≡ bs'
-      → Tells (calling s f more (bytes bs)) (record { session = o.session; answer = 0; end = e }) b
-  unfolding calling
-  shown_tells e b d w k l p =
-      let z = sym (ap number d) ∙ h.outcome.answer in
-      record { answer = z; session = h.outcome.session; from = k; fits = l; shown = rw (← z, w) (p ∙ h.lent) }
+ratcheted s f more n meta o is bit h =
+    let flags : f ≡ cond meta META_RATCHET RATCHET = ratchet_by_its_bit f is ∙ ap (λ (b : Bool). cond b META_RATCHET RATCHET) (sym bit) in
+    let outcome = rw (sym flags) at h.outcome in
+    rw (is, and-false, outcome.answer, outcome.session)

@@ -15,8 +15,8 @@ use Rattle.frames.specs.Frames.{Said, limit, level_of, buffer_of, creating, open
 use Rattle.frames.specs.Journal.{told, behind_first, reply}
 use Rattle.frames.specs.Steps.{Part, line_limit, nothing, spoilt, upper_read, read, read_of, begun}
 use Rattle.frames.specs.Inside.{even}
-use Rattle.frames.specs.declared.reply.Stage.{Stage}
-use Rattle.frames.specs.declared.reply.Stage.TheVariants.{First, Later, Ended}
+use Rattle.frames.specs.declared.journal.Stage.{Stage}
+use Rattle.frames.specs.declared.journal.Stage.TheVariants.{First, Later, Ended}
 use Rattle.frames.proofs.Hexadecimal.{not_bytes, bytes_one}
 use Rattle.frames.proofs.Reading.{bad_stays, no_digit_spoils, upper_waits, full_spoils, upper_read-even, two_digits}
 

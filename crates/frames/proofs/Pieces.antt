@@ -13,8 +13,8 @@ use Rattle.frames.specs.Lines.{newline, lines}
 use Rattle.frames.specs.Journal.{Reply, reply, replies, journal}
 use Rattle.frames.specs.Steps.{Part, Place, Went, nothing, read, begun, start, reply_at, behind, reading, answer_limit, still, onward, stepped, finished, is_ended, place_of, Steps}
 use Rattle.frames.specs.Runs.{Ran, ready, piece}
-use Rattle.frames.specs.declared.reply.Stage.{Stage}
-use Rattle.frames.specs.declared.reply.Stage.TheVariants.{First, Later, Ended}
+use Rattle.frames.specs.declared.journal.Stage.{Stage}
+use Rattle.frames.specs.declared.journal.Stage.TheVariants.{First, Later, Ended}
 use Rattle.strobe.specs.declared.session.Session.{Session}
 use Rattle.laws.proofs.Bools.{true_not_false}
 use Rattle.frames.specs.declared.journal.Journal.{Journal}

@@ -1,51 +1,53 @@
--- Laws of writing: texts written one behind another are one text, and so come bytes in hexadecimal, an answer and a reply. Assumes nothing.
+-- Laws of writing: texts written one behind another are one text, and so come bytes in hexadecimal and an answer. Assumes nothing.
 use mathlib.Core.Path.{◌≡◌, refl, sym, ap, ◌∙◌}
-use mathlib.Core.List.{List, [], ◌∷◌, ◌++◌, append_assoc}
-use Prim.Native.Nat.{ℕ, ◌+◌, ◌-◌, ◌*◌, ◌/◌, ◌%◌, ◌≤◌, ◌<◌}
+use mathlib.Core.List.{List, [], ◌∷◌, ◌++◌, append-nil, append_assoc}
+use Prim.Native.Nat.{ℕ, suc, ◌+◌, ◌-◌, ◌*◌, ◌/◌, ◌%◌, ◌≤◌, ◌<◌}
 use native.Mathlib.Omega.{arith}
 use native.Mathlib.Numerals.{add-one}
-use lib.ListN.{length, take, drop, set, get_or, length-append, length-take, length-drop, length-set, take-append-drop, drop_of_length-le}
-use lib.Seq.{take_at, drop_at, drop-drop, drop-cons, set_split}
+use lib.ListN.{length, take, drop, set, get_or, length-append, length-take, length-drop, length-set, drop_of_length-le}
+use lib.Seq.{take_at, drop_at, drop-drop, set_split, length-take-le, take-suc}
+use borrow.Rule.Slice.PartMut.{put_mid, Post-is}
+use Rattle.std.proofs.lemmas.List.{take_rest}
 use Rattle.hex_digits.specs.Digits.{digit_of}
-use Rattle.strobe.specs.declared.session.Session.{Session}
 use Rattle.frames.specs.Hexadecimal.{encode}
 use Rattle.frames.specs.Lines.{newline}
-use Rattle.frames.specs.Frames.{Said}
-use Rattle.frames.specs.Journal.{answer_line, silent}
-use Rattle.frames.specs.Steps.{line_limit}
-use Rattle.frames.specs.Inside.{written, Tells, Replies}
-use Rattle.frames.specs.declared.frame.Called.{Called}
-use Rattle.frames.specs.declared.reply.Stage.{Stage}
-use Rattle.frames.specs.declared.reply.Stage.TheVariants.{Ended}
-use Rattle.frames.proofs.Framing.{part_is_dropped_and_taken}
+use Rattle.frames.specs.Journal.{answer_line}
+use Rattle.frames.specs.Inside.{Writes}
 
 -- ---- any text
 
-pub nothing_written : (out : List ℕ) (at : ℕ) → written out at [] ≡ out
-nothing_written out at = take-append-drop at out
+nothing_writes : (out : List ℕ) → Writes [] out 0 out
+nothing_writes out = record { size = refl; lent = refl }
 
-pub length-written : (out : List ℕ) (at : ℕ) (text : List ℕ) → at + length text ≤ length out → length (written out at text) ≡ length out
-length-written out at text h = simp (length-append, length-take, length-drop) (omega arith)
+module _ (text out : List ℕ) (put : ℕ) (out' : List ℕ) (w : Writes text out put out') where
+  text_first : take put out' ≡ text
+  text_first = ap (take put) w.lent ∙ take_at text (drop (length text) out) put (sym w.size)
 
-pub byte_stored_is_written : (out : List ℕ) (at b : ℕ) → at < length out → set out at b ≡ written out at (b ∷ [])
-byte_stored_is_written out at b h = rw (drop-drop 1 at out, add-one at) (set_split out at b h)
+  rest_stays : drop put out' ≡ drop put out
+  rest_stays = ap (drop put) w.lent ∙ drop_at text (drop (length text) out) put (sym w.size) ∙ ap (λ (n : ℕ). drop n out) (sym w.size)
 
-pub texts_join : (out : List ℕ) (at : ℕ) (a b : List ℕ) → at ≤ length out
-    → written (written out at a) (at + length a) b ≡ written out at (a ++ b)
-texts_join out at a b h =
-    let rest = drop (length a) (drop at out) in
-    let size : length (take at out ++ a) ≡ at + length a = simp (length-append, length-take) (omega arith) in
-    rw (
-      ← append_assoc (take at out) a rest,
-      take_at (take at out ++ a) rest (at + length a) size,
-      drop_at (take at out ++ a) rest (at + length a) size,
-      drop-drop (length b) (length a) (drop at out),
-      length-append a b,
-    )
-    (simp append_assoc)
+  pub one_more : (b : ℕ) → put < length out' → Writes (text ++ b ∷ []) out (put + 1) (set out' put b)
+  one_more b h =
+      let size : length (text ++ b ∷ []) ≡ put + 1 = omega (arith, w.size, length-append text (b ∷ [])) in
+      record {
+        size = sym size;
+        lent =
+            rw (size, ← drop-drop 1 put out, ← rest_stays, drop-drop 1 put out', add-one put, append_assoc text (b ∷ []) (drop (suc put) out'), ← text_first)
+            (set_split out' put b h);
+      }
 
-pub byte_and_text_join : (out : List ℕ) (at b : ℕ) (text : List ℕ) → at < length out → written (set out at b) (at + 1) text ≡ written out at (b ∷ text)
-byte_and_text_join out at b text h = rw (byte_stored_is_written out at b h) (texts_join out at (b ∷ []) text (omega arith))
+  -- another text in the rest of the buffer
+  pub joins : (b : List ℕ) (n : ℕ) (rest : List ℕ) → put ≤ length out' → Writes b (take (length out' - put) (drop put out')) n rest
+      → Writes (text ++ b) out (put + n) (put_mid put (length out' - put) out' rest)
+  joins b n rest h v =
+      let size : length (text ++ b) ≡ put + n = omega (arith, w.size, v.size, length-append text b) in
+      let post = Post-is put (length out') out' h ∙ drop_of_length-le out' {i = length out'} (omega arith) in
+      record {
+        size = sym size;
+        lent =
+            rw (post, append-nil rest, text_first, v.lent, take_rest out' put, rest_stays, size, append_assoc text b (drop (put + n) out), ← v.size)
+            (ap (λ (l : List ℕ). text ++ (b ++ l)) (drop-drop n put out));
+      }
 
 -- ---- bytes in hexadecimal
 
@@ -54,87 +56,66 @@ unfolding encode
 length-encode [] = refl
 length-encode (b ∷ bytes) = let n = length-encode bytes in omega arith
 
--- what holds at the head of the loop, i bytes done: what is done, and what is left to write from here, is the whole
-pub record Writing (bytes out₀ : List ℕ) (at : ℕ) (out : List ℕ) (i j : ℕ) : Type 0 where
-  pub within : i ≤ length bytes
-  pub place : j ≡ at + 2 * i
-  pub long : length out ≡ length out₀
-  pub lent : written out j (encode (drop i bytes)) ≡ written out₀ at (encode bytes)
+encode-append : (a b : List ℕ) → encode (a ++ b) ≡ encode a ++ encode b
+unfolding encode
+encode-append [] b = refl
+encode-append (x ∷ a) b = ap (λ (l : List ℕ). digit_of (x / 16) ∷ digit_of (x % 16) ∷ l) (encode-append a b)
 
-module _ (bytes out₀ : List ℕ) (at : ℕ) where
-  pub begins : Writing bytes out₀ at out₀ 0 at
-  begins = record { within = omega arith; place = omega arith; long = refl; lent = refl }
+pub no_bytes_write : (out : List ℕ) → Writes (encode []) out 0 out
+unfolding encode
+no_bytes_write out = nothing_writes out
 
-  pub goes : (out : List ℕ) (i j : ℕ) → Writing bytes out₀ at out i j → i < length bytes → j + 1 < length out
-      → (upper : ℕ) → upper ≡ digit_of (get_or bytes i 0 / 16) → (lower : ℕ) → lower ≡ digit_of (get_or bytes i 0 % 16)
-      → Writing bytes out₀ at (set (set out j upper) (j + 1) lower) (i + 1) (j + 2)
-  unfolding encode
-  goes out i j w h room upper u lower l =
-      let next : j + 2 ≡ j + 1 + 1 = omega arith in
-      record {
-        within = omega arith;
-        place = omega (arith, w.place);
-        long = simp length-set w.long;
-        lent =
-            rw (
-              next,
-              byte_and_text_join (set out j upper) (j + 1) lower (encode (drop (i + 1) bytes)) (rw length-set (omega arith)),
-              byte_and_text_join out j upper (lower ∷ encode (drop (i + 1) bytes)) (omega arith),
-              u,
-              l,
-              add-one i,
-            )
-            (rw (drop-cons bytes i 0 h) at w.lent);
-      }
-
-  pub ends : (out : List ℕ) (i j : ℕ) → Writing bytes out₀ at out i j → length bytes ≤ i
-      → (j ≡ at + 2 * length bytes) × (out ≡ written out₀ at (encode bytes))
-  unfolding encode
-  ends out i j w h = (omega (arith, w.within, w.place), sym (nothing_written out j) ∙ (rw (drop_of_length-le bytes {i = i} h) at w.lent))
+pub two_more : (bytes out : List ℕ) (i : ℕ) (out' : List ℕ) → Writes (encode (take i bytes)) out (2 * i) out' → i < length bytes → 2 * i + 1 < length out'
+    → (digits : List ℕ) → digits ≡ digit_of (get_or bytes i 0 / 16) ∷ digit_of (get_or bytes i 0 % 16) ∷ []
+    → Writes (encode (take (i + 1) bytes)) out (2 * (i + 1)) (set (set out' (2 * i) (get_or digits 0 0)) (2 * i + 1) (get_or digits 1 0))
+unfolding encode
+two_more bytes out i out' w h k digits d =
+    let byte = get_or bytes i 0 in
+    let upper = digit_of (byte / 16) in
+    let lower = digit_of (byte % 16) in
+    let text = encode (take i bytes) in
+    let two : 2 * (i + 1) ≡ 2 * i + 1 + 1 = omega arith in
+    let more : encode (take (i + 1) bytes) ≡ (text ++ upper ∷ []) ++ lower ∷ [] =
+    rw (add-one, take-suc bytes i 0 h, encode-append (take i bytes) (byte ∷ [])) (sym (append_assoc text (upper ∷ []) (lower ∷ []))) in
+    rw (d, more, two)
+    (one_more (text ++ upper ∷ []) out (2 * i + 1) (set out' (2 * i) upper) (one_more text out (2 * i) out' w upper (omega arith)) lower (rw length-set k))
 
 -- ---- an answer
 
-pub length-answer_line : (number : ℕ) (shown : List ℕ) → length (answer_line number shown) ≡ 2 * length shown + 3
-unfolding answer_line
-length-answer_line number shown = simp (length-append, length-encode) (omega arith)
-
-pub answer_line-written : (out : List ℕ) (at number : ℕ) (shown : List ℕ) → at + 2 * length shown + 3 ≤ length out
-    → (end : ℕ) → end ≡ at + 2 + 2 * length shown
-    → (out' : List ℕ) → out' ≡ written (set (set out at (48 + number / 10)) (at + 1) (48 + number % 10)) (at + 2) (encode shown)
-    → set out' end newline ≡ written out at (answer_line number shown)
-unfolding answer_line
-answer_line-written out at number shown h end e out' o =
-    let tens = 48 + number / 10 in
-    let ones = 48 + number % 10 in
-    let l = set (set out at tens) (at + 1) ones in
-    let text = encode shown ++ newline ∷ [] in
-    let next : at + 2 ≡ at + 1 + 1 = omega arith in
-    let long : length l ≡ length out = simp length-set in
-    let behind : end ≡ at + 2 + length (encode shown) = omega (arith, length-encode shown) in
-    let all : length out' ≡ length out = ap length o ∙ length-written l (at + 2) (encode shown) (omega arith) ∙ long in
-    rw (
-      byte_stored_is_written out' end newline (omega arith),
-      o,
-      behind,
-      texts_join l (at + 2) (encode shown) (newline ∷ []) (omega arith),
-      next,
-      byte_and_text_join (set out at tens) (at + 1) ones text (rw length-set (omega arith)),
-      byte_and_text_join out at tens (ones ∷ text) (omega arith),
+-- a newline finds room behind two characters and the digits
+pub newline_fits : (shown l : List ℕ) (n : ℕ) (rest : List ℕ) → 2 * length shown + 3 ≤ length l → Writes (encode shown) (take (length l - 2) (drop 2 l)) n rest
+    → 2 + n < length (put_mid 2 (length l - 2) l rest)
+newline_fits shown l n rest room v =
+    let part = take (length l - 2) (drop 2 l) in
+    let post = drop (length l - 2) (drop 2 l) in
+    omega (
+      arith,
+      v.size,
+      length-encode shown,
+      ap (length {A = ℕ}) v.lent,
+      length-append (encode shown) (drop (length (encode shown)) part),
+      length-drop (length (encode shown)) part,
+      length-take (length l - 2) (drop 2 l),
+      length-drop 2 l,
+      length-take-le 2 l (omega arith),
+      length-append (take 2 l) (rest ++ post),
+      length-append rest post,
     )
 
--- ---- a reply
+module _ (number : ℕ) (shown out : List ℕ) (room : 2 * length shown + 3 ≤ length out) where
+  abbrev numbered : List ℕ
+  numbered = set (set out 0 (48 + number / 10)) 1 (48 + number % 10)
 
-pub told_line_replies : (said : Said) (r : Called) (buffer : List ℕ) → Tells said r buffer → length buffer ≡ line_limit
-    → (out : List ℕ) (at : ℕ) (stage stage' : Stage) → stage' ≡ stage
-    → let text = answer_line r.answer (take (r.end - 2) (drop 2 buffer)) in (put : ℕ) → put ≡ at + length text
-    → (out' : List ℕ) → out' ≡ written out at text
-    → Replies (record { text = answer_line said.answer said.shown; stage = stage; session = said.session }) out at
-    (record { stage = stage'; session = r.session; put = put }) out'
-told_line_replies said r buffer t full out at stage stage' e put p out' o = record { stage = e; session = t.session; put = rw told at p; lent = rw told at o }
-  where
-    told : answer_line r.answer (take (r.end - 2) (drop 2 buffer)) ≡ answer_line said.answer said.shown
-    told = rw (t.answer, part_is_dropped_and_taken 2 r.end buffer t.from (omega (arith, t.fits)), t.shown)
+  module _ (n : ℕ) (rest : List ℕ) (v : Writes (encode shown) (take (length numbered - 2) (drop 2 numbered)) n rest) where
+    digits_write : Writes ((48 + number / 10) ∷ (48 + number % 10) ∷ encode shown) out (2 + n) (put_mid 2 (length numbered - 2) numbered rest)
+    digits_write =
+        let tens = 48 + number / 10 in
+        let ones = 48 + number % 10 in
+        let two : Writes (tens ∷ ones ∷ []) out 2 numbered =
+        one_more (tens ∷ []) out 1 (set out 0 tens) (one_more [] out 0 out (nothing_writes out) tens (omega arith)) ones (rw length-set (omega arith)) in
+        let long : length numbered ≡ length out = simp length-set in
+        joins (tens ∷ ones ∷ []) out 2 numbered two (encode shown) n rest (omega arith) v
 
-pub ended_is_silent : (session : Session) (out : List ℕ) (at : ℕ)
-    → Replies (silent session) out at (record { stage = Ended; session = session; put = at }) out
-ended_is_silent session out at = record { stage = refl; session = refl; put = omega arith; lent = sym (nothing_written out at) }
+    pub answer_writes : Writes (answer_line number shown) out (2 + n + 1) (set (put_mid 2 (length numbered - 2) numbered rest) (2 + n) newline)
+    unfolding answer_line
+    answer_writes = one_more _ out (2 + n) _ digits_write newline (newline_fits shown numbered n rest (rw length-set (rw length-set room)) v)

@@ -6,8 +6,8 @@ use Rattle.strobe.specs.declared.session.Session.{Session}
 use Rattle.frames.specs.Hexadecimal.{Read, encode, decode}
 use Rattle.frames.specs.Lines.{newline, lines}
 use Rattle.frames.specs.Frames.{Said, opening, framed}
-use Rattle.frames.specs.declared.reply.Stage.{Stage}
-use Rattle.frames.specs.declared.reply.Stage.TheVariants.{First, Later, Ended}
+use Rattle.frames.specs.declared.journal.Stage.{Stage}
+use Rattle.frames.specs.declared.journal.Stage.TheVariants.{First, Later, Ended}
 
 -- the answer as two decimal digits, the buffer in hexadecimal, a newline
 unfoldable pub answer_line : ℕ → List ℕ → List ℕ

@@ -1,6 +1,6 @@
 -- The journal a character at a time, as the code goes through it, and what the public functions promise. That any pieces of an input give what
 -- `journal` says is a theorem.
-use Rattle.std.specs.Prelude.{Bool, true, false, not, cond, ◌&&◌, ◌||◌, List, [], ◌∷◌, ◌++◌, ◌≡◌, ℕ, suc, ◌+◌, ◌*◌, ◌-◌, ◌%◌, eqb, ltb, length, take, drop}
+use Rattle.std.specs.Prelude.{Bool, true, false, not, cond, ◌&&◌, ◌||◌, List, [], ◌∷◌, ◌++◌, ◌≡◌, ℕ, suc, ◌+◌, ◌*◌, ◌-◌, ◌%◌, eqb, ltb, length, take, drop, is_some, unwrap_or}
 use Rattle.hex_digits.specs.Digits.{value_of}
 use Rattle.strobe.specs.Session.{blank}
 use Rattle.strobe.specs.declared.session.Session.{Session}
@@ -8,8 +8,8 @@ use Rattle.frames.specs.Hexadecimal.{Read, misshapen, bytes, is_digit}
 use Rattle.frames.specs.Lines.{newline}
 use Rattle.frames.specs.Journal.{Reply, reply}
 use Rattle.frames.specs.declared.line.Line.{Line}
-use Rattle.frames.specs.declared.reply.Stage.{Stage}
-use Rattle.frames.specs.declared.reply.Stage.TheVariants.{First, Later, Ended}
+use Rattle.frames.specs.declared.journal.Stage.{Stage}
+use Rattle.frames.specs.declared.journal.Stage.TheVariants.{First, Later, Ended}
 use Rattle.frames.specs.declared.journal.Journal.{Journal}
 use Rattle.frames.specs.declared.journal.Stepped.{Stepped}
 
@@ -110,12 +110,11 @@ is_ended Ended = true
 
 -- ---- the struct, as the definitions see it, and the promises
 
--- a value without its half says nothing
-abbrev pub part_of : List ℕ → Line → Part
-part_of buffer l = record { bytes = take l.count buffer; half = l.half; upper = cond l.half l.upper 0; good = l.good }
+abbrev pub part_of : Line → Part
+part_of l = record { bytes = take l.count l.buffer; half = is_some l.upper; upper = unwrap_or l.upper 0; good = l.good }
 
 abbrev pub place_of : Journal → Place
-place_of j = record { stage = j.stage; session = j.session; part = part_of j.buffer j.line }
+place_of j = record { stage = j.stage; session = j.session; part = part_of j.line }
 
 -- a journal, the number of bytes it took and those it wrote at the start of a lent buffer
 pub record Steps (w : Went) (out : List ℕ) (r : Stepped) (out' : List ℕ) : Type 0 where

@@ -1,60 +1,28 @@
 // What a line's bytes ask for, and the call that it makes.
-ghost use Rattle.std.specs.Prelude.{◌≡◌, ◌+◌, ◌≤◌, length, take, drop, replicate};
-ghost use Rattle.strobe.specs.Answer.{number, bad_line};
+ghost use Rattle.std.specs.Prelude.{◌≡◌, ◌≤◌, length, replicate, IfSome};
 ghost use Rattle.strobe.specs.Flags.{operation};
-ghost use Rattle.strobe.specs.declared.flags.Operation.TheVariants.{Ratchet, Prf};
+ghost use Rattle.strobe.specs.declared.flags.Operation.TheVariants.{Ratchet};
+ghost use Rattle.strobe.specs.declared.session.Session.{Session};
 ghost use Rattle.frames.specs.Hexadecimal.{bytes};
-ghost use Rattle.frames.specs.Frames.{level_of, count_of, buffer_of, shows, opening, calling, framed};
-ghost use Rattle.frames.specs.Steps.{line_limit, part_of, read_of};
-ghost use Rattle.frames.specs.Inside.{quiet, Tells};
+ghost use Rattle.frames.specs.Frames.{limit, level_of, shows, opening, calling, framed};
+ghost use Rattle.frames.specs.Steps.{part_of, read_of};
+ghost use Rattle.frames.specs.Inside.{counted_by, told_by, called, unshown};
 
-use crate::line;
 use crate::line::Line;
 use strobe::{Answer, Flags, Operation, Outcome, Session};
 
-// The journal's own answer, to a line that is out of shape.
-const BAD_LINE: u8 = 7;
-
-// The count of a prf or a send_mac is at most so large.
+// The bytes of a protocol name, and the count of a prf or a send_mac, are at most so many.
 const LIMIT: usize = 4096;
 
-// A first line has a level byte before its name.
-const FIRST_LIMIT: usize = 4097;
-
-// What comes of a line.
+// What comes of a line in shape.
 #[derive(Clone, Copy)]
-pub struct Called {
-    pub session: Session,
-    pub answer: u8,
-    // what is shown of the line's buffer stands from index 2 up to here
-    pub end: usize,
+pub struct Called<'a> {
+    pub outcome: Outcome,
+    // what is shown of the line's buffer
+    pub shown: &'a [u8],
 }
 
-// Nothing is done on a line that is out of shape.
-fn refused(session: Session) -> Called
-    ensures { result ≡ quiet session bad_line }
-{
-    Called {
-        session,
-        answer: BAD_LINE,
-        end: 2,
-    }
-}
-
-// An outcome with nothing shown.
-fn unshown(outcome: Outcome) -> Called
-    ensures { result ≡ quiet outcome.session (number outcome.answer) }
-{
-    let session = outcome.session;
-    let answer = outcome.answer;
-    Called {
-        session,
-        answer: answer.number(),
-        end: 2,
-    }
-}
-
-// The level of a level byte; 0 is none.
+// The level of a level byte; 0 is none, and creation by number refuses it.
 fn level_of(byte: u8) -> usize
     ensures { result ≡ level_of byte }
 {
@@ -65,149 +33,111 @@ fn level_of(byte: u8) -> usize
     }
 }
 
-// A first line: a level byte and a protocol name.
-pub fn open(session: Session, line: Line, buffer: &[u8]) -> Called
-    requires { (line.count ≤ line_limit) × (length buffer.now ≡ line_limit) }
-    ensures { Tells (opening session (read_of (part_of buffer.now line))) result buffer.now }
+// A first line: a level byte and a protocol name. `None` is out of shape.
+#[tactic(auto, unfolding(crate::specs::Frames::opening))]
+pub fn open(line: &Line) -> Option<Called<'_>>
+    ensures said { (session : Session) → told_by session result ≡ opening session (read_of (part_of line.now)) }
+    ensures shown { IfSome result (λ called. length called.shown.now ≤ limit) }
 {
-    let count = line.count;
-    if !line::whole(line) {
-        return refused(session);
+    let (level, name) = line.said()?.split_first()?;
+    if name.len() > LIMIT {
+        return None;
     }
-    if count == 0 {
-        return refused(session);
-    }
-    if count > FIRST_LIMIT {
-        return refused(session);
-    }
-    unshown(Session::create(&buffer[1..count], level_of(buffer[0])))
+    Some(Called {
+        outcome: Session::create(name, level_of(*level)),
+        shown: &[],
+    })
 }
 
 // Whether an operation's buffer is shown.
 fn shows(operation: Operation) -> bool
     ensures { result ≡ shows operation }
 {
-    match operation {
-        Operation::Ad => false,
-        Operation::Ratchet => false,
-        Operation::Key => false,
-        Operation::Prf => true,
-        Operation::SendClr => false,
-        Operation::RecvClr => false,
-        Operation::SendMac => true,
-        Operation::RecvMac => false,
-        Operation::SendEnc => true,
-        Operation::RecvEnc => true,
-        Operation::Unknown => false,
-    }
+    matches!(
+        operation,
+        Operation::Prf | Operation::SendMac | Operation::SendEnc | Operation::RecvEnc
+    )
 }
 
-// A count of four bytes, the highest first.
-fn count_of(buffer: &[u8]) -> usize
-    requires { length buffer.now ≡ line_limit }
-    ensures { result ≡ count_of (drop 2 (take 6 buffer.now)) }
+// A payload that is a count: four bytes, the highest first.
+#[tactic(auto, unfolding(crate::specs::Inside::counted_by), using(crate::proofs::Framing::four_bytes_count))]
+fn count_of(payload: &[u8]) -> Option<usize>
+    ensures { result ≡ counted_by payload.now }
 {
-    let a = buffer[2] as usize;
-    let b = buffer[3] as usize;
-    let c = buffer[4] as usize;
-    let d = buffer[5] as usize;
-    ((a * 256 + b) * 256 + c) * 256 + d
-}
-
-// A ratchet: a count, and no bytes.
-fn ratchet(session: Session, flags: Flags, more: bool, buffer: &[u8], count: usize) -> Called
-    requires { (operation flags ≡ Ratchet) × (2 ≤ count) × (count ≤ line_limit) × (length buffer.now ≡ line_limit) }
-    ensures { Tells (calling session flags more (buffer_of Ratchet (drop 2 (take count buffer.now)))) result buffer.now }
-{
-    if count != 6 {
-        return refused(session);
-    }
-    let n = count_of(buffer);
-    if flags.has(Flags::M) {
-        return unshown(session.meta_ratchet(n, more));
-    }
-    unshown(session.ratchet(n, more))
-}
-
-// A call on the buffer from index 2 up to `end`.
-fn call(session: Session, flags: Flags, more: bool, buffer: &mut [u8], end: usize) -> Called
-    requires { (2 ≤ end) × (end ≤ line_limit) × (length buffer.old ≡ line_limit) }
-    ensures { Tells (calling session flags more (bytes (drop 2 (take end buffer.old)))) result buffer.new }
-{
-    let outcome = session.call(flags, more, &mut buffer[2..end]);
-    let answer = outcome.answer;
-    let operation = flags.operation();
-    let Answer::Done = answer else {
-        return unshown(outcome);
+    let [a, b, c, d] = payload else {
+        return None;
     };
-    if !shows(operation) {
-        return unshown(outcome);
+    Some(u32::from_be_bytes([*a, *b, *c, *d]) as usize)
+}
+
+// A ratchet by its count, of no bytes.
+fn ratchet(session: &Session, flags: Flags, more: bool, count: usize) -> Outcome
+    requires { operation flags ≡ Ratchet }
+    ensures { unshown result ≡ calling session.now flags more (bytes (replicate count 0)) }
+{
+    if flags.has(Flags::M) {
+        session.meta_ratchet(count, more)
+    } else {
+        session.ratchet(count, more)
     }
-    let behind = outcome.session;
+}
+
+// A call on a buffer.
+#[tactic(auto, unfolding(crate::specs::Frames::calling))]
+fn call<'a>(session: &Session, flags: Flags, more: bool, buffer: &'a mut [u8]) -> Called<'a>
+    ensures said { called result ≡ calling session.now flags more (bytes buffer.old) }
+    ensures shown { length result.shown.now ≤ length buffer.old }
+{
+    let outcome = session.call(flags, more, buffer);
+    let Answer::Done = outcome.answer else {
+        return Called {
+            outcome,
+            shown: &[],
+        };
+    };
+    if !shows(flags.operation()) {
+        return Called {
+            outcome,
+            shown: &[],
+        };
+    }
     Called {
-        session: behind,
-        answer: 0,
-        end,
+        outcome,
+        shown: buffer,
     }
 }
 
-// So many zeros from index 2 on.
-fn clear(buffer: &mut [u8], count: usize)
-    requires { 2 + count ≤ length buffer.old }
-    ensures { drop 2 (take (2 + count) buffer.new) ≡ replicate count 0 }
+// Every line but the first. `None` is out of shape.
+#[tactic(auto, unfolding(crate::specs::Frames::framed))]
+pub fn frame<'a>(session: &Session, line: &'a mut Line) -> Option<Called<'a>>
+    ensures said { told_by session.now result ≡ framed session.now (read_of (part_of line.old)) }
+    ensures shown { IfSome result (λ called. length called.shown.now ≤ limit) }
 {
-    let mut i: usize = 0;
-    while i < count {
-        buffer[2 + i] = 0;
-        i += 1;
+    let [flags, more, payload @ ..] = line.said()? else {
+        return None;
+    };
+    if *more > 1 {
+        return None;
     }
-}
-
-// A prf or a send_mac: a count, and the buffer is as long.
-fn draw(session: Session, flags: Flags, more: bool, buffer: &mut [u8], count: usize) -> Called
-    requires { (2 ≤ count) × (count ≤ line_limit) × (length buffer.old ≡ line_limit) }
-    ensures { Tells (calling session flags more (buffer_of Prf (drop 2 (take count buffer.old)))) result buffer.new }
-{
-    if count != 6 {
-        return refused(session);
-    }
-    let n = count_of(buffer);
-    if n > LIMIT {
-        return refused(session);
-    }
-    clear(buffer, n);
-    call(session, flags, more, buffer, 2 + n)
-}
-
-// Every line but the first.
-pub fn frame(session: Session, line: Line, buffer: &mut [u8]) -> Called
-    requires { (line.count ≤ line_limit) × (length buffer.old ≡ line_limit) }
-    ensures { Tells (framed session (read_of (part_of buffer.old line))) result buffer.new }
-{
-    let count = line.count;
-    if !line::whole(line) {
-        return refused(session);
-    }
-    if count < 2 {
-        return refused(session);
-    }
-    if buffer[1] > 1 {
-        return refused(session);
-    }
-    let flags = Flags(buffer[0]);
-    let more = buffer[1] == 1;
-    let operation = flags.operation();
-    match operation {
-        Operation::Ad => call(session, flags, more, buffer, count),
-        Operation::Ratchet => ratchet(session, flags, more, buffer, count),
-        Operation::Key => call(session, flags, more, buffer, count),
-        Operation::Prf => draw(session, flags, more, buffer, count),
-        Operation::SendClr => call(session, flags, more, buffer, count),
-        Operation::RecvClr => call(session, flags, more, buffer, count),
-        Operation::SendMac => draw(session, flags, more, buffer, count),
-        Operation::RecvMac => call(session, flags, more, buffer, count),
-        Operation::SendEnc => call(session, flags, more, buffer, count),
-        Operation::RecvEnc => call(session, flags, more, buffer, count),
-        Operation::Unknown => call(session, flags, more, buffer, count),
+    let flags = Flags(*flags);
+    let more = *more == 1;
+    match flags.operation() {
+        Operation::Ratchet => Some(Called {
+            outcome: ratchet(session, flags, more, count_of(payload)?),
+            shown: &[],
+        }),
+        Operation::Prf | Operation::SendMac => {
+            let count = count_of(payload)?;
+            if count > LIMIT {
+                return None;
+            }
+            let buffer = &mut line.buffer[..count];
+            buffer.fill(0);
+            Some(call(session, flags, more, buffer))
+        }
+        _ => {
+            let end = payload.len() + 2;
+            Some(call(session, flags, more, &mut line.buffer[2..end]))
+        }
     }
 }

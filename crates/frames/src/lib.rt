@@ -5,7 +5,5 @@ mod answer;
 mod frame;
 mod journal;
 mod line;
-mod reply;
-mod walk;
 
 pub use journal::{Journal, Stepped};

@@ -1,189 +1,128 @@
 // A line as it comes: its digits go two by two into a buffer.
-ghost use Rattle.std.specs.Prelude.{◌≡◌, ◌≤◌, min, length};
-ghost use Rattle.frames.specs.Steps.{line_limit, part_of, read};
-ghost use Rattle.frames.specs.Inside.{empty_line, spoilt_line, begun_line, fitted_line, whole_line, Reads, ReadsPairs, Takes};
+ghost use Rattle.std.specs.Prelude.{◌≡◌, true, option_copied};
+ghost use Rattle.frames.specs.Steps.{nothing, part_of, read, read_of, begun};
+ghost use Rattle.frames.specs.Inside.{Same, is_whole, read_all, past, said};
 
 // The bytes of the longest line: a flag byte, a `more` byte and a payload.
 pub const LINE_LIMIT: usize = 4098;
 
-// How much of a line is in the buffer.
+// Any values of these say something, so that no function asks for a fact about them: a count past the buffer's end is the end.
 #[derive(Clone, Copy)]
 pub struct Line {
+    pub buffer: [u8; LINE_LIMIT],
     // the bytes so far
-    pub count: usize,
-    // whether the upper half of the next byte waits
-    pub half: bool,
-    // its value
-    pub upper: u8,
+    count: usize,
+    // the upper half of the next byte, where it waits
+    upper: Option<u8>,
     // whether all is in shape so far
-    pub good: bool,
+    good: bool,
 }
 
-#[derive(Clone, Copy)]
-pub struct Taken {
-    pub line: Line,
-    // where the input goes on
-    pub at: usize,
-    // whether the line's newline was met
-    pub ended: bool,
-}
-
-// A line of which nothing has come.
-pub fn empty() -> Line
-    ensures { result ≡ empty_line }
-{
-    Line {
-        count: 0,
-        half: false,
-        upper: 0,
-        good: true,
-    }
-}
-
-fn spoilt(line: Line) -> Line
-    ensures { result ≡ spoilt_line line }
-{
-    Line {
-        count: line.count,
-        half: line.half,
-        upper: line.upper,
-        good: false,
-    }
-}
-
-// Whether anything of the line has come.
-pub fn begun(line: Line) -> bool
-    ensures { result ≡ begun_line line }
-{
-    !line.good || line.half || line.count > 0
-}
-
-// A count that is within the buffer.
-pub fn fitted(line: Line) -> Line
-    ensures { result ≡ fitted_line line }
-{
-    if line.count <= LINE_LIMIT {
-        return line;
-    }
-    Line {
-        count: LINE_LIMIT,
-        half: line.half,
-        upper: line.upper,
-        good: line.good,
-    }
-}
-
-// Whether a line that ends here says whole bytes.
-pub fn whole(line: Line) -> bool
-    ensures { result ≡ whole_line line }
-{
-    line.good && !line.half
-}
-
-// One character more.
-fn read(line: Line, buffer: &mut [u8], character: u8) -> Line
-    requires { (line.count ≤ line_limit) × (length buffer.old ≡ line_limit) }
-    ensures { Reads (read (part_of buffer.old line) character) result buffer.new }
-{
-    let value = hex_digits::value(character);
-    if !line.good {
-        return line;
-    }
-    if value > 15 {
-        return spoilt(line);
-    }
-    if !line.half {
-        return Line {
-            count: line.count,
-            half: true,
-            upper: value,
+impl Line {
+    // A line of which nothing has come.
+    pub fn empty() -> Line
+        ensures { part_of result ≡ nothing }
+    {
+        Line {
+            buffer: [0u8; LINE_LIMIT],
+            count: 0,
+            upper: None,
             good: true,
-        };
-    }
-    let count = line.count;
-    if count == LINE_LIMIT {
-        return spoilt(line);
-    }
-    // The remainder is for a journal that no step has made: its upper half may be any byte.
-    buffer[count] = line.upper % 16 * 16 + value;
-    Line {
-        count: count + 1,
-        half: false,
-        upper: 0,
-        good: true,
-    }
-}
-
-fn least(a: usize, b: usize) -> usize
-    ensures { result ≡ min a b }
-{
-    if a < b { a } else { b }
-}
-
-// Whole bytes of two digits each from `at` on, as many as come: no test for a newline or a half, so that a line costs little. Gives their number.
-fn read_pairs(buffer: &mut [u8], count: usize, input: &[u8], at: usize) -> usize
-    requires { (count ≤ line_limit) × (length buffer.old ≡ line_limit) × (at ≤ length input.now) }
-    ensures { ReadsPairs buffer.old count input.now at result buffer.new }
-{
-    let most = least((input.len() - at) / 2, LINE_LIMIT - count);
-    let mut n: usize = 0;
-    while n < most {
-        let upper = hex_digits::value(input[at + 2 * n]);
-        let lower = hex_digits::value(input[at + 2 * n + 1]);
-        if upper > 15 {
-            return n;
         }
-        if lower > 15 {
-            return n;
-        }
-        buffer[count + n] = upper * 16 + lower;
-        n += 1;
     }
-    n
-}
 
-// A character at a time, up to the newline or the input's end.
-fn read_all(line: Line, buffer: &mut [u8], input: &[u8], at: usize) -> Taken
-    requires { (line.count ≤ line_limit) × (length buffer.old ≡ line_limit) × (at ≤ length input.now) }
-    ensures { Takes line buffer.old input.now at result buffer.new }
-{
-    let mut part = line;
-    let mut i = at;
-    while i < input.len() {
-        let character = input[i];
-        i += 1;
-        if character == b'\n' {
-            return Taken {
-                line: part,
-                at: i,
-                ended: true,
+    // The same behind a line. The buffer's bytes stay, and say nothing.
+    pub fn clear(&mut self)
+        ensures { part_of self.new ≡ nothing }
+    {
+        self.count = 0;
+        self.upper = None;
+        self.good = true;
+    }
+
+    // Whether anything of the line has come.
+    pub fn has_begun(&self) -> bool
+        ensures { result ≡ begun (part_of self.now) }
+    {
+        !self.good || self.upper.is_some() || self.count > 0
+    }
+
+    // Whether a line that ends here says whole bytes.
+    fn is_whole(&self) -> bool
+        ensures { result ≡ is_whole (part_of self.now) }
+    {
+        self.good && self.upper.is_none()
+    }
+
+    // The bytes of a line that ends here, if it is in shape.
+    pub fn said(&self) -> Option<&[u8]>
+        ensures { said (option_copied result) ≡ read_of (part_of self.now) }
+    {
+        if self.is_whole() {
+            Some(&self.buffer[..self.count.min(LINE_LIMIT)])
+        } else {
+            None
+        }
+    }
+
+    // One character more.
+    #[tactic(auto, unfolding(crate::specs::Steps::read))]
+    fn read(&mut self, character: u8)
+        ensures { part_of self.new ≡ read (part_of self.old) character }
+    {
+        if !self.good {
+            return;
+        }
+        match (hex_digits::value(character), self.upper) {
+            (None, _) => self.good = false,
+            (Some(upper), None) => self.upper = Some(upper),
+            (Some(lower), Some(upper)) if self.count < LINE_LIMIT => {
+                // The remainder is for a journal that no step has made: its upper half may be any byte.
+                self.buffer[self.count] = upper % 16 * 16 + lower;
+                self.count += 1;
+                self.upper = None;
+            }
+            (Some(_), Some(_)) => self.good = false,
+        }
+    }
+
+    // Whole bytes of two digits each, as many as come: no test for a newline or a half, so that a line costs little. Gives the rest of the input.
+    fn read_pairs<'a>(&mut self, input: &'a [u8]) -> &'a [u8]
+        requires { is_whole (part_of self.old) ≡ true }
+        ensures { Same (part_of self.new) result.now (part_of self.old) input.now }
+    {
+        let mut rest = input;
+        while let [upper, lower, others @ ..] = rest {
+            if self.count >= LINE_LIMIT {
+                break;
+            }
+            let Some(byte) = hex_digits::byte(*upper, *lower) else {
+                break;
             };
+            self.buffer[self.count] = byte;
+            self.count += 1;
+            rest = others;
         }
-        let next = read(part, buffer, character);
-        part = next;
+        rest
     }
-    Taken {
-        line: part,
-        at: i,
-        ended: false,
-    }
-}
 
-// Takes the input from `at` on, up to the newline or the input's end.
-pub fn take(line: Line, buffer: &mut [u8], input: &[u8], at: usize) -> Taken
-    requires { (line.count ≤ line_limit) × (length buffer.old ≡ line_limit) × (at ≤ length input.now) }
-    ensures { Takes line buffer.old input.now at result buffer.new }
-{
-    if !whole(line) {
-        return read_all(line, buffer, input, at);
+    // Takes the input up to the newline, and gives what is behind it; `None` where the line goes on past the input.
+    pub fn take<'a>(&mut self, input: &'a [u8]) -> Option<&'a [u8]>
+        ensures read { part_of self.new ≡ read_all (part_of self.old) input.now }
+        ensures rest { option_copied result ≡ past input.now }
+    {
+        let mut rest = if self.is_whole() {
+            self.read_pairs(input)
+        } else {
+            input
+        };
+        while let [character, others @ ..] = rest {
+            if *character == b'\n' {
+                return Some(others);
+            }
+            self.read(*character);
+            rest = others;
+        }
+        None
     }
-    let count = line.count;
-    let n = read_pairs(buffer, count, input, at);
-    let read = Line {
-        count: count + n,
-        half: false,
-        upper: 0,
-        good: true,
-    };
-    read_all(read, buffer, input, at + 2 * n)
 }

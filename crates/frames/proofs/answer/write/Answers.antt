@@ -1,11 +1,10 @@
--- `answer::write` meets its contract: two bytes, the digits and a newline, one behind another, are the line of the answer. Assumes nothing.
-use native.Mathlib.Omega.{arith}
-use Rattle.frames.proofs.Writing.{length-answer_line, answer_line-written}
+-- Two digits, the bytes and a newline, one behind another, are the line of the answer. Assumes nothing.
+use Rattle.std.proofs.Common.{ℕ, arith, length-set}
+use Rattle.frames.proofs.Writing.{newline_fits, answer_writes}
 use Rattle.frames.proofs.answer.write.Goals as goal
 
+pub bounds-out-end : goal.bounds-out-end
+bounds-out-end c = newline_fits c.args.shown.now _ _ _ (omega (arith, length-set {A = ℕ})) c.write_hexadecimal-end.ensures
+
 pub returns : goal.returns
-returns c =
-    let w = c.write_hexadecimal-end in (
-      omega (arith, w.ensures.0, length-answer_line c.args.number c.args.shown.now),
-      answer_line-written _ _ _ _ c.requires _ w.ensures.0 _ w.ensures.1,
-    )
+returns c = answer_writes c.args.number c.args.shown.now c.args.out.now c.requires _ _ c.write_hexadecimal-end.ensures

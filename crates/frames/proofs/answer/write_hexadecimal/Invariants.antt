@@ -1,11 +1,8 @@
--- `write_hexadecimal` meets its contract. The invariant `Writing`: what is written, and what is left to write from here, is the whole. Assumes nothing.
-use Prim.Native.Nat.{◌-◌}
-use lib.ListN.{length}
-use Rattle.frames.proofs.Writing.{Writing}
+-- What is written is the bytes so far. Assumes nothing.
+use Rattle.std.proofs.Common.{◌*◌, take}
+use Rattle.frames.specs.Hexadecimal.{encode}
+use Rattle.frames.specs.Inside.{Writes}
 use Rattle.frames.proofs.answer.write_hexadecimal.Given as goal
 
 abbrev pub invariant-loop-i : goal.invariant-loop-i
-invariant-loop-i l = Writing l.bytes l.initial.out l.at l.out l.i l.j
-
-abbrev pub decreases-loop-i : goal.decreases-loop-i
-decreases-loop-i l = length l.bytes - l.i
+invariant-loop-i l = Writes (encode (take l.i l.bytes)) l.initial.out (2 * l.i) l.out

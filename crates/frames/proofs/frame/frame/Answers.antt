@@ -1,107 +1,55 @@
--- `frame` meets its contract, test by test and operation by operation: each is called on what the line asks for. Assumes nothing.
-use mathlib.Core.Path.{refl, sym, ◌∙◌}
-use native.Mathlib.Omega.{arith}
-use borrow.Author.Rules.{rules}
-use Rattle.strobe.specs.declared.flags.Operation.TheVariants.{Ad, Ratchet, Key, Prf, SendClr, RecvClr, SendMac, RecvMac, SendEnc, RecvEnc, Unknown}
-use Rattle.frames.specs.Frames.{framed}
-use Rattle.frames.proofs.Framing.{other_line_is_misshapen, short_line_refused, large_more_refused, line_calls, refused_tells}
+-- Each way through the code is a case of `framed`. Assumes nothing.
+use Rattle.std.proofs.Common.{ℕ, List, ◌≡◌, length, replicate, ap, sym, ◌∙◌, arith, rules}
+use lib.Dec.{eqb}
+use lib.ListN.{get_or}
+use borrow.Author.Tests.{le-leb, lt-leb}
+use Rattle.strobe.specs.Flags.{flags}
+use Rattle.frames.specs.Hexadecimal.{bytes}
+use Rattle.frames.specs.Frames.{limit, calling}
+use Rattle.frames.proofs.Framing.{no_count, some_count, draws_by_count, plain_buffer, payload_fits, payload_is_lent, said_calls, refused_misshapen}
 use Rattle.frames.proofs.frame.frame.Goals as goal
 
-pub returns-then-not-whole : goal.returns-then-not-whole
-unfolding framed
-returns-then-not-whole c =
-    let a = c.args in
-    rw (other_line_is_misshapen a.buffer.now a.line c.whole.ensures c.if-not-whole.true) (refused_tells _ _ _ _ refl c.refused.ensures)
+pub returns-in_err-count_of-in-Ratchet-clause-said : goal.returns-in_err-count_of-in-Ratchet-clause-said
+returns-in_err-count_of-in-Ratchet-clause-said c =
+    rw c.from_residual-in_err-count_of-in-Ratchet.ensures
+    (refused_misshapen _ _ _ c.said.ensures c.in_ok-said.was (search rules) c.in-len2-up.len_at_least _ (omega arith) _ c.operation.ensures
+    (rw c.in-Ratchet.is (no_count _ (sym c.count_of.ensures ∙ c.in_err-count_of-in-Ratchet.was) _)))
 
-pub returns-then-count-lt2 : goal.returns-then-count-lt2
-returns-then-count-lt2 c =
-    let a = c.args in
-    refused_tells _ _ _ _ (short_line_refused _ a.buffer.now a.line c.whole.ensures c.if-not-whole.false (omega arith) c.if-count-lt2.true)
-    c.refused-then-count-lt2.ensures
+pub returns-in_err-count-in-Prf-clause-said : goal.returns-in_err-count-in-Prf-clause-said
+returns-in_err-count-in-Prf-clause-said c =
+    rw c.from_residual-in_err-count-in-Prf.ensures
+    (refused_misshapen _ _ _ c.said.ensures c.in_ok-said.was (search rules) c.in-len2-up.len_at_least _ (omega arith) _ c.operation.ensures
+    (draws_by_count _ _ c.in-Prf.is ∙ no_count _ (sym c.count_of-in-Prf.ensures ∙ c.in_err-count-in-Prf.was) _))
 
-pub returns-then-buffer-gt1 : goal.returns-then-buffer-gt1
-returns-then-buffer-gt1 c =
-    let a = c.args in
-    refused_tells _ _ _ _
-    (large_more_refused _ a.buffer.now a.line c.whole.ensures c.if-not-whole.false (omega arith) (omega arith) c.if-buffer-gt1.true)
-    c.refused-then-buffer-gt1.ensures
+pub returns-then-count-gt-LIMIT-clause-said : goal.returns-then-count-gt-LIMIT-clause-said
+returns-then-count-gt-LIMIT-clause-said c =
+    let n = some_count _ _ (sym c.count_of-in-Prf.ensures ∙ c.in_ok-count-in-Prf.was) in
+    refused_misshapen _ _ _ c.said.ensures c.in_ok-said.was (search rules) c.in-len2-up.len_at_least _ (omega arith) _ c.operation.ensures
+    (draws_by_count _ _ c.in-Prf.is ∙ rw (n.1, n.0, lt-leb c.in_ok-count-in-Prf.count limit c.if-count-gt-LIMIT.true))
 
-pub ratchet-requires : goal.ratchet-requires
-ratchet-requires c = (sym c.operation-operation.ensures ∙ c.in-Ratchet.is, omega arith, omega arith, search rules)
+pub returns-in_ok-count_of-in-Ratchet-clause-said : goal.returns-in_ok-count_of-in-Ratchet-clause-said
+returns-in_ok-count_of-in-Ratchet-clause-said c =
+    let call = said_calls _ _ _ c.said.ensures c.in_ok-said.was (search rules) c.in-len2-up.len_at_least c.args.session.now (omega arith) _ c.operation.ensures in
+    rw (call, c.in-Ratchet.is, (some_count _ _ (sym c.count_of.ensures ∙ c.in_ok-count_of-in-Ratchet.was)).1) c.ratchet.ensures
 
-pub returns-in-Ad : goal.returns-in-Ad
-returns-in-Ad c =
-    let a = c.args in
-    rw (line_calls _ a.buffer.now a.line c.whole.ensures c.if-not-whole.false (omega arith) (omega arith) (omega arith) (omega arith)
-    Ad (sym c.operation-operation.ensures ∙ c.in-Ad.is))
-    c.call.ensures
+pub returns-else-count-gt-LIMIT-clause-said : goal.returns-else-count-gt-LIMIT-clause-said
+returns-else-count-gt-LIMIT-clause-said c =
+    let count = c.in_ok-count-in-Prf.count in
+    let call = said_calls _ _ _ c.said.ensures c.in_ok-said.was (search rules) c.in-len2-up.len_at_least c.args.session.now (omega arith) _ c.operation.ensures in
+    let n = some_count _ count (sym c.count_of-in-Prf.ensures ∙ c.in_ok-count-in-Prf.was) in
+    let zeros : c.fill.new.self ≡ replicate count 0 = c.fill.ensures.after (λ y h. h) ∙ ap (λ (n : ℕ). replicate n 0) (search rules) in
+    rw (call, draws_by_count _ _ c.in-Prf.is, n.1, n.0, le-leb count limit c.if-count-gt-LIMIT.false, ← zeros) c.call.ensures.said
 
-pub returns-in-Ratchet : goal.returns-in-Ratchet
-returns-in-Ratchet c =
-    let a = c.args in
-    rw (line_calls _ a.buffer.now a.line c.whole.ensures c.if-not-whole.false (omega arith) (omega arith) (omega arith) (omega arith)
-    Ratchet (sym c.operation-operation.ensures ∙ c.in-Ratchet.is))
-    c.ratchet.ensures
-
-pub returns-in-Key : goal.returns-in-Key
-returns-in-Key c =
-    let a = c.args in
-    rw (line_calls _ a.buffer.now a.line c.whole.ensures c.if-not-whole.false (omega arith) (omega arith) (omega arith) (omega arith)
-    Key (sym c.operation-operation.ensures ∙ c.in-Key.is))
-    c.call-in-Key.ensures
-
-pub returns-in-Prf : goal.returns-in-Prf
-returns-in-Prf c =
-    let a = c.args in
-    rw (line_calls _ a.buffer.now a.line c.whole.ensures c.if-not-whole.false (omega arith) (omega arith) (omega arith) (omega arith)
-    Prf (sym c.operation-operation.ensures ∙ c.in-Prf.is))
-    c.draw.ensures
-
-pub returns-in-SendClr : goal.returns-in-SendClr
-returns-in-SendClr c =
-    let a = c.args in
-    rw (line_calls _ a.buffer.now a.line c.whole.ensures c.if-not-whole.false (omega arith) (omega arith) (omega arith) (omega arith)
-    SendClr (sym c.operation-operation.ensures ∙ c.in-SendClr.is))
-    c.call-in-SendClr.ensures
-
-pub returns-in-RecvClr : goal.returns-in-RecvClr
-returns-in-RecvClr c =
-    let a = c.args in
-    rw (line_calls _ a.buffer.now a.line c.whole.ensures c.if-not-whole.false (omega arith) (omega arith) (omega arith) (omega arith)
-    RecvClr (sym c.operation-operation.ensures ∙ c.in-RecvClr.is))
-    c.call-in-RecvClr.ensures
-
-pub returns-in-SendMac : goal.returns-in-SendMac
-returns-in-SendMac c =
-    let a = c.args in
-    rw (line_calls _ a.buffer.now a.line c.whole.ensures c.if-not-whole.false (omega arith) (omega arith) (omega arith) (omega arith)
-    SendMac (sym c.operation-operation.ensures ∙ c.in-SendMac.is))
-    c.draw-in-SendMac.ensures
-
-pub returns-in-RecvMac : goal.returns-in-RecvMac
-returns-in-RecvMac c =
-    let a = c.args in
-    rw (line_calls _ a.buffer.now a.line c.whole.ensures c.if-not-whole.false (omega arith) (omega arith) (omega arith) (omega arith)
-    RecvMac (sym c.operation-operation.ensures ∙ c.in-RecvMac.is))
-    c.call-in-RecvMac.ensures
-
-pub returns-in-SendEnc : goal.returns-in-SendEnc
-returns-in-SendEnc c =
-    let a = c.args in
-    rw (line_calls _ a.buffer.now a.line c.whole.ensures c.if-not-whole.false (omega arith) (omega arith) (omega arith) (omega arith)
-    SendEnc (sym c.operation-operation.ensures ∙ c.in-SendEnc.is))
-    c.call-in-SendEnc.ensures
-
-pub returns-in-RecvEnc : goal.returns-in-RecvEnc
-returns-in-RecvEnc c =
-    let a = c.args in
-    rw (line_calls _ a.buffer.now a.line c.whole.ensures c.if-not-whole.false (omega arith) (omega arith) (omega arith) (omega arith)
-    RecvEnc (sym c.operation-operation.ensures ∙ c.in-RecvEnc.is))
-    c.call-in-RecvEnc.ensures
-
-pub returns-in-Unknown : goal.returns-in-Unknown
-returns-in-Unknown c =
-    let a = c.args in
-    rw (line_calls _ a.buffer.now a.line c.whole.ensures c.if-not-whole.false (omega arith) (omega arith) (omega arith) (omega arith)
-    Unknown (sym c.operation-operation.ensures ∙ c.in-Unknown.is))
-    c.call-in-Unknown.ensures
+pub returns-in_default-operation : goal.returns-in_default-operation
+returns-in_default-operation c =
+    let o = c.in_default-operation in
+    let bs = c.in_ok-said.field-0.now in
+    let call = said_calls _ _ _ c.said.ensures c.in_ok-said.was (search rules) c.in-len2-up.len_at_least c.args.session.now (omega arith) _ c.operation.ensures in
+    let lent = payload_is_lent _ _ _ c.said.ensures c.in_ok-said.was (search rules) c.in-len2-up.len_at_least in
+    let fits = payload_fits _ _ _ c.said.ensures c.in_ok-said.was (search rules) c.in-len2-up.len_at_least in
+    record {
+      said =
+          rw (call, plain_buffer _ _ o.not-Ratchet o.not-Prf o.not-SendMac)
+          (c.call-in_default-operation.ensures.said ∙ ap (λ (b : List ℕ). calling c.args.session.now (flags (get_or bs 0 0)) (eqb (get_or bs 1 0) 1) (bytes b)) lent);
+      shown = omega (arith, c.call-in_default-operation.ensures.shown, fits, ap (length {A = ℕ}) lent);
+    }
