@@ -6,94 +6,64 @@ ghost use Rattle.frames.specs.Steps.{answer_limit};
 
 use frames::Journal;
 use std::io::Read;
+use std::{fmt, io};
 
-// The journal behind a read, and whether there is another.
-#[derive(Clone, Copy)]
-struct Run {
-    journal: Journal,
-    on: bool,
+// What ends a run before its input does.
+#[derive(Drop)]
+enum Failure {
+    Input(io::Error),
+    Output(io::Error),
 }
 
-// Writes the first `put` bytes of `out`. What is known of a failure goes to standard error.
-fn wrote(rt: &(impl Print + Eprint), out: &[u8], put: usize) -> bool
-    requires { put ≤ length out.now }
-{
-    match rt.write_all(&out[..put]) {
-        Ok(()) => true,
-        Err(e) => {
-            let _ = eprintln!(rt; "journal: standard output: {e}");
-            false
+impl fmt::Display for Failure {
+    fn fmt<W: fmt::Write>(&self, f: &mut fmt::Formatter<W>) -> fmt::Result {
+        match self {
+            Failure::Input(e) => write!(f, "standard input: {e}"),
+            Failure::Output(e) => write!(f, "standard output: {e}"),
         }
     }
 }
 
 // Answers all of the input, and writes the answers.
-fn answered(rt: &(impl Print + Eprint), journal: Journal, input: &[u8], out: &mut [u8]) -> Run
+fn answered(rt: &impl Print, journal: Journal, input: &[u8], out: &mut [u8]) -> io::Result<Journal>
     requires { answer_limit ≤ length out.old }
 {
     let mut behind = journal;
-    let mut at: usize = 0;
-    while at < input.len() {
-        let step = behind.step(&input[at..], out);
+    let mut rest = input;
+    while !rest.is_empty() {
+        let step = behind.step(rest, out);
         behind = step.journal;
-        at += step.taken;
-        if !wrote(rt, out, step.put) {
-            return Run {
-                journal: behind,
-                on: false,
-            };
-        }
+        rest = &rest[step.taken..];
+        rt.write_all(&out[..step.put])?;
     }
-    Run {
-        journal: behind,
-        on: !behind.ended(),
-    }
+    Ok(behind)
 }
 
-// One read. At the end of the input a last line without its newline is answered.
-fn turn(
-    rt: &(impl Print + Eprint),
-    reader: &mut impl Read,
-    journal: Journal,
-    input: &mut [u8],
-    out: &mut [u8],
-) -> Run
-    requires { answer_limit ≤ length out.old }
-{
-    match reader.read(input) {
-        Err(e) => {
-            let _ = eprintln!(rt; "journal: standard input: {e}");
-            Run { journal, on: false }
-        }
-        Ok(0) => {
-            let last = journal.finish(out);
-            wrote(rt, out, last.put);
-            Run {
-                journal: last.journal,
-                on: false,
-            }
-        }
-        Ok(n) => answered(rt, journal, &input[..n], out),
-    }
-}
-
-// Nothing says that the input ends, so the reads are counted, up to a number that no run uses up.
-fn reads(rt: &(impl Print + Eprint + Input), input: &mut [u8], out: &mut [u8])
+// All reads, up to the end of the input or to a first line that ends the run. At the end a last line without its newline is answered. Nothing says that
+// the input ends, so the reads are counted, up to a number that no run uses up.
+fn run(rt: &(impl Print + Input), input: &mut [u8], out: &mut [u8]) -> Result<(), Failure>
     requires { answer_limit ≤ length out.old }
 {
     let mut reader = rt.reader();
     let mut journal = Journal::new();
     for _ in 0..u64::MAX {
-        let behind = turn(rt, &mut reader, journal, input, out);
-        journal = behind.journal;
-        if !behind.on {
+        let n = reader.read(input).map_err(Failure::Input)?;
+        if n == 0 {
+            let last = journal.finish(out);
+            return rt.write_all(&out[..last.put]).map_err(Failure::Output);
+        }
+        journal = answered(rt, journal, &input[..n], out).map_err(Failure::Output)?;
+        if journal.ended() {
             break;
         }
     }
+    Ok(())
 }
 
 fn main(rt: HostRuntime) {
     let mut input = [0u8; 65536];
     let mut out = [0u8; 65536];
-    reads(&rt, &mut input, &mut out);
+    if let Err(failure) = run(&rt, &mut input, &mut out) {
+        let _ = eprintln!(rt; "journal: {failure}");
+    }
 }

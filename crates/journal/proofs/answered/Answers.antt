@@ -1,36 +1,18 @@
-use Rattle.std.proofs.Common.{◌≡◌, ℕ, ◌+◌, ◌-◌, ◌<◌, ◌≤◌, List, length, take, drop, length-take, length-drop, arith, rules}
-use Rattle.frames.specs.Steps.{Place, Steps, stepped, answer_limit}
-use Rattle.frames.specs.declared.journal.Stepped.{Stepped}
+use Rattle.std.proofs.Common.{◌-◌, ◌<◌, length, drop, sym, length-take, length-drop, arith}
+use borrow.Author.Tests.{eqb-false}
 use Rattle.frames.proofs.Pieces.{taken_fits, some_taken}
 use Rattle.journal.proofs.answered.Goals as goal
 
--- a step moves on within the input
-moves : (p : Place) (input out : List ℕ) (at : ℕ) (r : Stepped) (out' : List ℕ)
-    → Steps (stepped p (take (length input - at) (drop at input)) (length out)) out r out'
-    → at < length input → answer_limit ≤ length out → (at + r.taken ≤ length input) × (0 < r.taken)
-moves p input out at r out' s h enough =
-    let part = take (length input - at) (drop at input) in
-    let size : length part ≡ length input - at = omega (arith, length-take (length input - at) (drop at input), length-drop at input) in
-    let most : r.taken ≤ length part = taken_fits p part out r out' s in
-    let some : 0 < r.taken = some_taken p part out r out' s enough (omega (arith, size, h)) in
-    (omega (arith, most, size, h), some)
+pub slice_bounds-rest-count : goal.slice_bounds-rest-count
+slice_bounds-rest-count g c = taken_fits _ _ _ _ _ c.step-step.ensures
 
-pub overflow_add-at : goal.overflow_add-at
-overflow_add-at g c =
-    let m =
-    moves _ c.args.input.now c.loop-at.out c.loop-at.at c.step-step.result _ c.step-step.ensures c.loop-at-test.true
-    (omega (arith, c.requires, c.loop-at.auto.out)) in
-    let within = m.0 in
-    search rules
+pub slice_bounds-rest-start : goal.slice_bounds-rest-start
+slice_bounds-rest-start g c = taken_fits _ _ _ _ _ c.step-step.ensures
 
-pub loop-at-smaller : goal.loop-at-smaller
-loop-at-smaller g c =
-    let m =
-    moves _ c.args.input.now c.loop-at.out c.loop-at.at c.step-step.result _ c.step-step.ensures c.loop-at-test.true
-    (omega (arith, c.requires, c.loop-at.auto.out)) in
-    omega (arith, m.0, m.1)
-
-pub loop-at-preserved : goal.loop-at-preserved
-loop-at-preserved g c =
-    (moves _ c.args.input.now c.loop-at.out c.loop-at.at c.step-step.result _ c.step-step.ensures c.loop-at-test.true
-    (omega (arith, c.requires, c.loop-at.auto.out))).0
+pub loop-rest-smaller : goal.loop-rest-smaller
+loop-rest-smaller g c =
+    let rest = c.loop-rest.rest.now in
+    let n = c.step-step.result.taken in
+    let more : 0 < length rest = omega (arith, eqb-false (length rest) 0 (sym c.loop-rest-test.ensures)) in
+    let some = some_taken _ _ _ _ _ c.step-step.ensures (omega (arith, c.requires, c.loop-rest.auto.out)) more in
+    omega (arith, some, taken_fits _ _ _ _ _ c.step-step.ensures, length-take (length rest - n) (drop n rest), length-drop n rest)
