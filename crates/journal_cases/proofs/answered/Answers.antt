@@ -1,23 +1,15 @@
-use Rattle.std.proofs.Common.{ℕ, ◌+◌, ◌-◌, ◌<◌, ◌≤◌, List, length, take, drop, length-take, length-drop, arith, rules}
-use Rattle.frames.specs.Steps.{Place, Steps, stepped}
-use Rattle.frames.specs.declared.journal.Stepped.{Stepped}
+use Rattle.std.proofs.Common.{◌-◌, length, drop, length-take, length-drop, arith}
 use Rattle.frames.proofs.Pieces.{taken_fits}
 use Rattle.journal_cases.proofs.answered.Goals as goal
 
-within : (p : Place) (input out : List ℕ) (at : ℕ) (r : Stepped) (out' : List ℕ)
-    → Steps (stepped p (take (length input - at) (drop at input)) (length out)) out r out' → at < length input → at + r.taken ≤ length input
-within p input out at r out' s h =
-    let most = taken_fits p (take (length input - at) (drop at input)) out r out' s in
-    omega (arith, most, h, length-take (length input - at) (drop at input), length-drop at input)
+pub slice_bounds-rest-count : goal.slice_bounds-rest-count
+slice_bounds-rest-count g c = taken_fits _ _ _ _ _ c.step-step.ensures
 
-pub overflow_add-at : goal.overflow_add-at
-overflow_add-at g c =
-    let most = within _ c.args.input.now c.loop-at.out c.loop-at.at c.step-step.result _ c.step-step.ensures c.loop-at-test.true in
-    search rules
+pub slice_bounds-rest-start : goal.slice_bounds-rest-start
+slice_bounds-rest-start g c = taken_fits _ _ _ _ _ c.step-step.ensures
 
-pub loop-at-smaller : goal.loop-at-smaller
-loop-at-smaller g c =
-    omega (arith, within _ c.args.input.now c.loop-at.out c.loop-at.at c.step-step.result _ c.step-step.ensures c.loop-at-test.true)
-
-pub loop-at-preserved : goal.loop-at-preserved
-loop-at-preserved g c = within _ c.args.input.now c.loop-at.out c.loop-at.at c.step-step.result _ c.step-step.ensures c.loop-at-test.true
+pub loop-rest-smaller : goal.loop-rest-smaller
+loop-rest-smaller g c =
+    let rest = c.loop-rest.rest.now in
+    let n = c.step-step.result.taken in
+    omega (arith, taken_fits _ _ _ _ _ c.step-step.ensures, length-take (length rest - n) (drop n rest), length-drop n rest)

@@ -1,9 +1,6 @@
--- `answered` is safe and ends: what is taken is within the input. Assumes nothing.
-use Rattle.std.proofs.Common.{◌-◌, ◌≤◌, length}
+-- What is left of the input gets shorter. Assumes nothing.
+use Rattle.std.proofs.Common.{length}
 use Rattle.journal_cases.proofs.answered.Given as goal
 
-abbrev pub invariant-loop-at : goal.invariant-loop-at
-invariant-loop-at g l = l.at ≤ length l.input
-
-abbrev pub decreases-loop-at : goal.decreases-loop-at
-decreases-loop-at g l = length l.input - l.at
+abbrev pub decreases-loop-rest : goal.decreases-loop-rest
+decreases-loop-rest g l = length l.rest
