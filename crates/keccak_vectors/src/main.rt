@@ -27,14 +27,11 @@ fn answer_line(rt: &impl Print, input: &mut impl Read) -> bool {
         return false;
     }
     // A cut line needs no test of its own: the zeros after it are neither digits nor a newline.
-    let parsed = line::parse(&line);
-    if !parsed.found {
-        let _ = rt.write_all(b"not a state: 400 lower-case hexadecimal digits and a newline\n");
+    let Some(state) = line::parse(&line) else {
+        let _ = println!(rt; "not a state: 400 lower-case hexadecimal digits and a newline");
         return false;
-    }
-    let state = parsed.state;
-    let permuted = keccak::permute(state);
-    let answer = line::spelled(&permuted);
+    };
+    let answer = line::spelled(&keccak::permute(state));
     rt.write_all(&answer).is_ok()
 }
 
