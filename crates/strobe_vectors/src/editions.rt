@@ -2,16 +2,10 @@
 use crate::data;
 use strobe::Session;
 
-#[derive(Clone, Copy)]
+#[derive(Clone, Copy, PartialEq, Eq)]
 pub enum Edition {
     One,
     Two,
-}
-
-pub fn counting() -> [u8; 256] {
-    let mut bytes = [0u8; 256];
-    data::count_up(&mut bytes, 0);
-    bytes
 }
 
 impl Edition {
@@ -24,9 +18,9 @@ impl Edition {
 
     // What a save writes is edition 2. Edition 1 has another first byte, and ends before the last operation.
     pub fn form(self, session: Session) -> [u8; 256] {
-        let mut buf = counting();
+        let mut buf = data::counting(0);
         saved::save(session, &mut buf);
-        if let Edition::One = self {
+        if self == Edition::One {
             buf[0] = 1;
         }
         buf

@@ -10,17 +10,14 @@ fn there_and_back(rt: &impl Print, session: Session) -> io::Result<Session> {
     let mut form = [0u8; saved::SIZE];
     let answer = saved::save(session, &mut form);
     line::write(rt, Outcome { session, answer }, &form)?;
-    let out = saved::load(&form);
-    line::write(rt, out, &form)?;
-    Ok(out.session)
+    line::write(rt, saved::load(&form), &form)
 }
 
 // A load of the session's form in edition 1.
 fn back_from_old(rt: &impl Print, session: Session) -> io::Result<Session> {
     let form = Edition::One.form(session);
-    let out = saved::load(&form[0..205]);
-    line::write(rt, out, &form[0..205])?;
-    Ok(out.session)
+    let old = &form[..usize::from(Edition::One.size())];
+    line::write(rt, saved::load(old), old)
 }
 
 // The example of docs/FORMATS.md.
@@ -67,27 +64,24 @@ fn at_level(rt: &impl Print, level: Level) -> io::Result<Session> {
 
 fn reloaded(session: Session, edition: Edition) -> Session {
     let form = edition.form(session);
-    saved::load(&form[0..edition.size() as usize]).session
+    saved::load(&form[..usize::from(edition.size())]).session
 }
 
 // Every flag byte without K: a call, and one that goes on with it after a load of each edition. Only edition 2 lets it go on.
 fn write_going_on(rt: &impl Print) -> io::Result<()> {
     let mut session = Session::new(&data::NAME, Level::B128).session;
-    let mut byte: u8 = 0;
-    while byte < 0x20 {
+    for byte in 0..0x20 {
         let opened = step(rt, session, byte, false, 5)?;
         step(rt, reloaded(opened, Edition::One), byte, true, 7)?;
         session = step(rt, reloaded(opened, Edition::Two), byte, true, 7)?;
-        byte += 1;
     }
     Ok(())
 }
 
-// 256 bytes more than an edition's size: a refused load, and a call on what it gave.
+// 256 bytes more than an edition's size: a refused load, and a call on the blank that it gave.
 fn write_refused(rt: &impl Print, bytes: &[u8]) -> io::Result<()> {
-    let out = saved::load(bytes);
-    line::write(rt, out, b"")?;
-    step(rt, out.session, 0x02, false, 3)?;
+    let blank = line::write(rt, saved::load(bytes), b"")?;
+    step(rt, blank, 0x02, false, 3)?;
     Ok(())
 }
 

@@ -1,23 +1,15 @@
 // The published transcript of Merlin, which is STROBE-128.
-use crate::output;
+use hex_digits::Hex;
 use std::io;
 use strobe::{Level, Session};
 
-// A length as four bytes, the least first.
-fn length_bytes(n: usize) -> [u8; 4] {
-    [
-        (n % 256) as u8,
-        (n / 256 % 256) as u8,
-        (n / 65536 % 256) as u8,
-        (n / 16777216 % 256) as u8,
-    ]
-}
-
-// What a message and a challenge begin with.
+// What a message and a challenge begin with. A length goes in as four bytes, the least first.
 fn announced(s: Session, label: &[u8], n: usize) -> Session {
-    let labelled = s.meta_ad(label, false).session;
-    let length = length_bytes(n);
-    labelled.meta_ad(&length, true).session
+    let length = n.to_le_bytes();
+    s.meta_ad(label, false)
+        .session
+        .meta_ad(&length[..4], true)
+        .session
 }
 
 fn append(s: Session, label: &[u8], message: &[u8]) -> Session {
@@ -32,6 +24,5 @@ pub fn write(rt: &impl Print) -> io::Result<()> {
     let s = append(s, b"some label", b"some data");
     let mut challenge = [0u8; 32];
     announced(s, b"challenge", 32).prf(&mut challenge, false);
-    output::write_hex(rt, &challenge)?;
-    output::write_text(rt, b"\n")
+    println!(rt; "{}", Hex(&challenge))
 }

@@ -1,5 +1,5 @@
 // Calls in pieces, each with its line.
-use crate::{data, line};
+use crate::{data, steps};
 use std::io;
 use strobe::{Flags, Level, Session};
 
@@ -11,11 +11,12 @@ fn step(
     more: bool,
     size: usize,
 ) -> io::Result<Session> {
-    let mut bytes = [0u8; 200];
-    data::count_up(&mut bytes, flags.0);
-    let out = session.call_in_pieces(flags, more, size, &mut bytes);
-    line::write(rt, out, &bytes)?;
-    Ok(out.session)
+    steps::step(
+        rt,
+        flags.0,
+        200,
+        |buf| session.call_in_pieces(flags, more, size, buf),
+    )
 }
 
 // The MAC's first piece is done, and the next one is refused.

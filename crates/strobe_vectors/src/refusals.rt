@@ -1,8 +1,8 @@
 // Every refusal. What is refused leaves the session as it was.
 use crate::numbered::step;
-use crate::{data, line, named};
+use crate::{data, line, steps};
 use std::io;
-use strobe::{Direction, Flags, Last, Level, Session};
+use strobe::{Flags, Last, Level, Session};
 
 // On a session whose last operation is ad. Where two tests fail the earlier one answers.
 fn by_number(rt: &impl Print, s: Session) -> io::Result<()> {
@@ -25,48 +25,41 @@ fn by_number(rt: &impl Print, s: Session) -> io::Result<()> {
 
 // The longest that are done, the shortest that are refused.
 fn limits(rt: &impl Print, s: Session) -> io::Result<()> {
-    named::ratchet(rt, s, 65537, true)?;
-    named::ratchet(rt, s, 65537, false)?;
-    named::meta_ratchet(rt, s, 65537, false)?;
-    let ratcheted = named::ratchet(rt, s, 65536, false)?;
-    named::ratchet(rt, ratcheted, 65537, true)?;
+    line::write(rt, s.ratchet(65537, true), b"")?;
+    line::write(rt, s.ratchet(65537, false), b"")?;
+    line::write(rt, s.meta_ratchet(65537, false), b"")?;
+    let ratcheted = line::write(rt, s.ratchet(65536, false), b"")?;
+    line::write(rt, ratcheted.ratchet(65537, true), b"")?;
     step(rt, s, 0x0d, false, 64)?;
     Ok(())
 }
 
-// Of level 256.
-pub fn made(state: [u8; 200], pos: usize, begin: usize, last: Last) -> Session {
+// A session at other places, with another last operation.
+pub fn changed(session: Session, pos: usize, begin: usize, last: Last) -> Session {
     Session {
-        state,
-        level: Level::B256,
         pos,
         begin,
-        direction: Direction::Neither,
         last,
+        ..session
     }
 }
 
-// A position at the rate, a begin position above the position, a last operation that is none of the
+// A position at the rate of level 256, a begin position above the position, a last operation that is none of the
 // twenty; at the end a session that is just well formed.
 fn not_sessions(rt: &impl Print, s: Session) -> io::Result<()> {
-    let state = s.state;
-    step(rt, made(state, 134, 0, Last::Nothing), 0x22, true, 3)?;
-    step(rt, made(state, 4, 5, Last::Nothing), 0x02, false, 3)?;
-    step(rt, made(state, 5, 5, Last::Op(Flags(0x05))), 0x05, true, 3)?;
-    step(
-        rt,
-        made(state, 133, 133, Last::Op(Flags::AD)),
-        0x02,
-        true,
-        3,
-    )?;
+    let s = Session {
+        level: Level::B256,
+        ..s
+    };
+    step(rt, changed(s, 134, 0, Last::Nothing), 0x22, true, 3)?;
+    step(rt, changed(s, 4, 5, Last::Nothing), 0x02, false, 3)?;
+    step(rt, changed(s, 5, 5, Last::Op(Flags(0x05))), 0x05, true, 3)?;
+    step(rt, changed(s, 133, 133, Last::Op(Flags::AD)), 0x02, true, 3)?;
     Ok(())
 }
 
 fn no_level(rt: &impl Print, level: usize) -> io::Result<Session> {
-    let out = Session::create(&data::NAME, level);
-    line::write(rt, out, &data::NAME)?;
-    Ok(out.session)
+    line::write(rt, Session::create(&data::NAME, level), &data::NAME)
 }
 
 pub fn write(rt: &impl Print) -> io::Result<()> {
@@ -78,6 +71,6 @@ pub fn write(rt: &impl Print) -> io::Result<()> {
     no_level(rt, 0)?;
     let blank = no_level(rt, 127)?;
     step(rt, blank, 0x02, false, 3)?;
-    named::step(rt, blank, Flags::RECV_MAC, false, 0)?;
+    steps::step(rt, 0x0d, 0, |mac| blank.recv_mac(mac))?;
     Ok(())
 }

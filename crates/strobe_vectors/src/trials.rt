@@ -1,19 +1,10 @@
 // Loads and saves with every number below 256: as the value of a byte of a form, as the length of a form, as the length of a buffer.
+use crate::data;
 use crate::editions::Edition;
-use crate::{editions, output, refusals};
-use std::io;
-use strobe::{Answer, Flags, Last, Session};
-
-// What is tried with each number.
-#[derive(Clone, Copy)]
-enum Trial {
-    // a load of the form with this value of the byte at a place
-    Value(Edition, u8),
-    // a load of so many bytes of the form
-    Length(Edition),
-    // a save into so many bytes
-    Room,
-}
+use crate::refusals::changed;
+use hex_digits::Hex;
+use std::{array, io};
+use strobe::{Answer, Flags, Last, Level, Outcome, Session};
 
 // The answer of a trial, and two numbers more: of a load the position and the last operation, as a form has it; of a save what is kept of the buffer,
 // and its byte where the last operation stands.
@@ -24,12 +15,6 @@ struct Case {
     last: u8,
 }
 
-fn with(form: [u8; 256], place: u8, value: u8) -> [u8; 256] {
-    let mut bytes = form;
-    bytes[place as usize] = value;
-    bytes
-}
-
 fn last_byte(last: Last) -> u8 {
     match last {
         Last::Nothing => 0xff,
@@ -37,115 +22,94 @@ fn last_byte(last: Last) -> u8 {
     }
 }
 
-fn load_first(bytes: [u8; 256], n: u8) -> Case {
-    let out = saved::load(&bytes[0..n as usize]);
-    let answer = out.answer;
-    let session = out.session;
-    let last = session.last;
+fn loaded(form: &[u8]) -> Case {
+    let Outcome { session, answer } = saved::load(form);
     Case {
         answer,
         number: (session.pos % 256) as u8,
-        last: last_byte(last),
+        last: last_byte(session.last),
     }
 }
 
 // 3 where a buffer is as it was, 1 where only the bytes after the form are.
 fn kept(buf: [u8; 256]) -> u8 {
-    let before = editions::counting();
+    let before: [u8; 256] = data::counting(0);
     if buf == before {
-        return 3;
-    }
-    if buf[206..256] == before[206..256] {
-        return 1;
-    }
-    0
-}
-
-fn save_first(session: Session, n: u8) -> Case {
-    let mut buf = editions::counting();
-    let answer = saved::save(session, &mut buf[0..n as usize]);
-    Case {
-        answer,
-        number: kept(buf),
-        last: buf[205],
+        3
+    } else if buf[206..] == before[206..] {
+        1
+    } else {
+        0
     }
 }
 
-fn tried(session: Session, trial: Trial, n: u8) -> Case {
-    match trial {
-        Trial::Value(edition, place) => load_first(
-            with(edition.form(session), place, n),
-            edition.size(),
-        ),
-        Trial::Length(edition) => load_first(edition.form(session), n),
-        Trial::Room => save_first(session, n),
-    }
+// A row for each of the three, with every number below 256.
+fn write_trial<F: Fn(u8) -> Case>(rt: &impl Print, tried: F) -> io::Result<()>
+    requires { F.IsAlwaysCallable tried }
+{
+    let cases: [Case; 256] = array::from_fn(|n| tried((n % 256) as u8));
+    println!(rt; "{}", Hex(&cases.map(|case| case.answer.number())))?;
+    println!(rt; "{}", Hex(&cases.map(|case| case.number)))?;
+    println!(rt; "{}", Hex(&cases.map(|case| case.last)))
 }
 
-fn write_row(rt: &impl Print, row: &[u8; 256]) -> io::Result<()> {
-    output::write_hex(rt, row)?;
-    output::write_text(rt, b"\n")
+// Loads of the form with each value of the byte at a place.
+fn write_value(rt: &impl Print, session: Session, edition: Edition, place: u8) -> io::Result<()> {
+    let form = edition.form(session);
+    write_trial(rt, |value| {
+        let mut bytes = form;
+        bytes[usize::from(place)] = value;
+        loaded(&bytes[..usize::from(edition.size())])
+    })
 }
 
-fn write_trial(rt: &impl Print, session: Session, trial: Trial) -> io::Result<()> {
-    let mut answers = [0u8; 256];
-    let mut numbers = [0u8; 256];
-    let mut lasts = [0u8; 256];
-    let mut n: usize = 0;
-    while n < 256 {
-        let case = tried(session, trial, (n % 256) as u8);
-        let answer = case.answer;
-        answers[n] = answer.number();
-        numbers[n] = case.number;
-        lasts[n] = case.last;
-        n += 1;
-    }
-    write_row(rt, &answers)?;
-    write_row(rt, &numbers)?;
-    write_row(rt, &lasts)
+// Loads of so many bytes of the form.
+fn write_length(rt: &impl Print, session: Session, edition: Edition) -> io::Result<()> {
+    let form = edition.form(session);
+    write_trial(rt, |n| loaded(&form[..usize::from(n)]))
 }
 
-// The bytes before the state.
-fn write_head(rt: &impl Print, session: Session, edition: Edition) -> io::Result<()> {
-    write_trial(rt, session, Trial::Value(edition, 0))?;
-    write_trial(rt, session, Trial::Value(edition, 1))?;
-    write_trial(rt, session, Trial::Value(edition, 2))?;
-    write_trial(rt, session, Trial::Value(edition, 3))?;
-    write_trial(rt, session, Trial::Value(edition, 4))
+// Saves into so many bytes.
+fn write_room(rt: &impl Print, session: Session) -> io::Result<()> {
+    write_trial(rt, |n| {
+        let mut buf: [u8; 256] = data::counting(0);
+        let answer = saved::save(session, &mut buf[..usize::from(n)]);
+        Case {
+            answer,
+            number: kept(buf),
+            last: buf[205],
+        }
+    })
 }
 
+// The bytes before the state, and the last operation.
 pub fn write_values(rt: &impl Print, session: Session) -> io::Result<()> {
-    write_head(rt, session, Edition::One)?;
-    write_head(rt, session, Edition::Two)?;
-    write_trial(rt, session, Trial::Value(Edition::Two, 205))
+    for edition in [Edition::One, Edition::Two] {
+        for place in 0..5 {
+            write_value(rt, session, edition, place)?;
+        }
+    }
+    write_value(rt, session, Edition::Two, 205)
 }
 
 // Behind the form of edition 1 comes a last operation's byte: of its first 206 bytes only the edition is wrong.
 pub fn write_lengths(rt: &impl Print, session: Session) -> io::Result<()> {
-    write_trial(rt, session, Trial::Length(Edition::One))?;
-    write_trial(rt, session, Trial::Length(Edition::Two))?;
-    write_trial(rt, session, Trial::Room)
+    write_length(rt, session, Edition::One)?;
+    write_length(rt, session, Edition::Two)?;
+    write_room(rt, session)
 }
 
 // Sessions that are not well formed: 8 comes before 11, and every byte is kept. The last two have no operation's flags for a last operation; the last
 // one's are what a form has for none.
 pub fn write_not_saved(rt: &impl Print) -> io::Result<()> {
-    let state = [0u8; 200];
-    write_trial(rt, Session::blank(), Trial::Room)?;
-    write_trial(
-        rt,
-        refusals::made(state, 134, 0, Last::Nothing),
-        Trial::Room,
-    )?;
-    write_trial(rt, refusals::made(state, 4, 5, Last::Nothing), Trial::Room)?;
-    write_trial(
-        rt,
-        refusals::made(state, 5, 5, Last::Op(Flags(0x05))),
-        Trial::Room,
-    )?;
-    write_trial(
-        rt,
-        refusals::made(state, 5, 5, Last::Op(Flags(0xff))),
-        Trial::Room,
-    )
+    let blank = Session::blank();
+    write_room(rt, blank)?;
+    let s = Session {
+        level: Level::B256,
+        ..blank
+    };
+    write_room(rt, changed(s, 134, 0, Last::Nothing))?;
+    write_room(rt, changed(s, 4, 5, Last::Nothing))?;
+    write_room(rt, changed(s, 5, 5, Last::Op(Flags(0x05))))?;
+    write_room(rt, changed(s, 5, 5, Last::Op(Flags(0xff))))
 }
