@@ -18,21 +18,16 @@ fn send(session: Session, text: &mut [u8], mac: &mut [u8]) -> Session {
     signed.session
 }
 
-fn write_text(rt: &impl Print, text: &[u8]) -> io::Result<()> {
-    rt.write_all(text)?;
-    rt.write_all(b"\n")
-}
-
 // Decrypts the text in place, and shows it only if its MAC is the sender's.
 fn receive(rt: &impl Print, session: Session, text: &mut [u8], mac: &[u8]) -> io::Result<Session> {
     let received = session.recv_enc(text, false);
     let checked = received.session.recv_mac(mac);
-    let answer = checked.answer;
-    let Answer::Done = answer else {
-        write_text(rt, b"a wrong MAC")?;
+    let Answer::Done = checked.answer else {
+        println!(rt; "a wrong MAC")?;
         return Ok(checked.session);
     };
-    write_text(rt, text)?;
+    rt.write_all(text)?;
+    println!(rt;)?;
     Ok(checked.session)
 }
 
@@ -41,9 +36,8 @@ fn overnight(rt: &impl Print, session: Session) -> io::Result<Session> {
     let mut form = [0u8; saved::SIZE];
     saved::save(session, &mut form);
     let morning = saved::load(&form);
-    let answer = morning.answer;
-    let Answer::Done = answer else {
-        write_text(rt, b"there was no session to save")?;
+    let Answer::Done = morning.answer else {
+        println!(rt; "there was no session to save")?;
         return Ok(morning.session);
     };
     Ok(morning.session)
@@ -62,8 +56,8 @@ fn main(rt: HostRuntime) -> io::Result<()> {
     let here = send(office(b"a shared secret"), &mut text, &mut mac);
     let there = receive(&rt, office(b"a shared secret"), &mut text, &mac)?;
     if die(overnight(&rt, here)?) == die(there) {
-        write_text(&rt, b"the dice agree")
+        println!(rt; "the dice agree")
     } else {
-        write_text(&rt, b"the dice differ")
+        println!(rt; "the dice differ")
     }
 }
