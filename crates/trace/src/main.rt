@@ -1,116 +1,76 @@
 // Cases on standard input, a line for each of their lines on standard output. This file moves the bytes.
 #![tactic(auto)]
 
-mod bounds;
+mod calls;
 mod digits;
 mod frame;
-mod lines;
-mod named;
-mod numbered;
+mod line;
+mod out;
 mod record;
 mod reply;
 
-ghost use Rattle.std.specs.Prelude.{◌+◌, ◌≤◌};
-ghost use Rattle.trace.specs.Bounds.{line_limit, out_size, reply_limit};
-
-use bounds::{LINE_LIMIT, OUT_SIZE, REPLY_LIMIT};
-use reply::Place;
+use frame::LENT_LIMIT;
+use line::Line;
+use out::Out;
 use std::io::Read;
+use strobe::Session;
 
-// Where a case stands, and how much of the line that is coming is in its buffer.
-#[derive(Clone, Copy)]
-struct Run {
-    place: Place,
-    count: usize,
+#[derive(Drop)]
+struct Trace<'a, P> {
+    // the session of a case, or none where its first line is to come
+    case: Option<Session>,
+    // as much of the next line as has come
+    line: Line,
+    // where the bytes stand that a call is lent
+    buffer: [u8; LENT_LIMIT],
+    out: Out<'a, P>,
 }
 
-// Writes the first `put` bytes of `out`.
-fn write(rt: &impl Print, out: &[u8; OUT_SIZE], put: usize)
-    requires { put ≤ out_size }
-{
-    let all = &out[..];
-    let _ = rt.write_all(&all[0..put]);
-}
-
-// Writes them where what is left has no room for another reply. Gives how many are still to be written.
-fn make_room(rt: &impl Print, out: &[u8; OUT_SIZE], put: usize) -> usize
-    requires { put ≤ out_size }
-    ensures { result + reply_limit ≤ out_size }
-{
-    if put <= OUT_SIZE - REPLY_LIMIT {
-        return put;
+impl<P: Print> Trace<'_, P> {
+    fn reply(&mut self) {
+        let text = self.line.text();
+        self.case = reply::reply(self.case, text, &mut self.buffer, &mut self.out);
+        self.line.clear();
     }
-    write(rt, out, put);
-    0
-}
 
-// Replies to all lines that end in the input. Nothing of the replies is held back.
-fn replied(
-    rt: &impl Print,
-    run: Run,
-    text: &mut [u8; LINE_LIMIT],
-    input: &[u8],
-    out: &mut [u8; OUT_SIZE],
-) -> Run
-    requires { run.count ≤ line_limit }
-    ensures { result.count ≤ line_limit }
-{
-    let mut place = run.place;
-    let mut count = run.count;
-    let mut at: usize = 0;
-    let mut put: usize = 0;
-    while at < input.len() {
-        let taken = lines::take(text, count, input, at);
-        at = taken.at;
-        count = taken.count;
-        if taken.ended {
-            put = make_room(rt, out, put);
-            let line = &text[..];
-            let replied = reply::reply(place, &line[0..count], out, put);
-            let next = replied.place;
-            place = next;
-            put = replied.put;
-            count = 0;
+    // Replies to all lines that end in the input. Nothing of the replies is held back.
+    fn take(&mut self, input: &[u8]) {
+        for part in input.split_inclusive(|character| *character == b'\n') {
+            match part {
+                [text @ .., b'\n'] => {
+                    self.line.push(text);
+                    self.reply();
+                }
+                text => self.line.push(text),
+            }
         }
+        self.out.flush();
     }
-    write(rt, out, put);
-    Run { place, count }
-}
 
-// At the input's end a last line without its newline is replied to.
-fn finish(rt: &impl Print, run: Run, text: &mut [u8; LINE_LIMIT], out: &mut [u8; OUT_SIZE])
-    requires { run.count ≤ line_limit }
-{
-    if run.count > 0 {
-        replied(rt, run, text, b"\n", out);
+    // At the input's end a last line without its newline is replied to.
+    fn finish(&mut self) {
+        if !self.line.is_empty() {
+            self.take(b"\n");
+        }
     }
 }
 
 // Nothing says that the input ends, so the reads are counted, up to a number that no run uses up. A read that fails counts as the end.
-fn reads(
-    rt: &(impl Print + Input),
-    text: &mut [u8; LINE_LIMIT],
-    input: &mut [u8],
-    out: &mut [u8; OUT_SIZE],
-) {
+fn main(rt: HostRuntime) {
+    let mut input = [0u8; 65536];
     let mut reader = rt.reader();
-    let mut run = Run {
-        place: reply::start(),
-        count: 0,
+    let mut trace = Trace {
+        case: None,
+        line: Line::new(),
+        buffer: [0u8; LENT_LIMIT],
+        out: Out::new(&rt),
     };
     for _ in 0..u64::MAX {
-        let n = reader.read(input).unwrap_or(0);
+        let n = reader.read(&mut input).unwrap_or(0);
         if n == 0 {
-            finish(rt, run, text, out);
+            trace.finish();
             return;
         }
-        run = replied(rt, run, text, &input[..n], out);
+        trace.take(&input[..n]);
     }
-}
-
-fn main(rt: HostRuntime) {
-    let mut text = [0u8; LINE_LIMIT];
-    let mut input = [0u8; 65536];
-    let mut out = [0u8; OUT_SIZE];
-    reads(&rt, &mut text, &mut input, &mut out);
 }
