@@ -4,11 +4,6 @@ ghost use Rattle.replay.specs.Mirror.{mirrored};
 
 use strobe::Flags;
 
-// Whether these are an operation's flags or those of its meta form.
-pub fn are_of(flags: Flags, operation: Flags) -> bool {
-    flags.0 % Flags::M.0 == operation.0
-}
-
 // Of a transported operation one end does the sender's form, the other the receiver's.
 pub fn mirror(flags: Flags) -> Flags
     ensures { result ≡ mirrored flags }

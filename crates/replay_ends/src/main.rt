@@ -8,50 +8,28 @@ mod ends;
 mod flags;
 mod line;
 mod meaning;
-mod output;
 mod pieces;
 mod plan;
 mod reload;
 
 use ends::Ends;
+use plan::Step;
 use std::io;
 use strobe::{Level, Session};
 
-// The plan's session and the two ends.
-#[derive(Clone, Copy)]
-struct Game {
-    plan: Session,
-    ends: Ends,
-}
-
 // With the number behind its name the plan has all that vectors/replay_plan.py asks of it.
-fn begun(rt: &impl Print, level: Level) -> io::Result<Game> {
-    let plan = Session::new(b"a plan for two ends, 2713", level).session;
-    output::write_text(rt, &plan.version_str())?;
-    output::write_text(rt, b"\n")?;
-    Ok(Game {
-        plan,
-        ends: Ends::new(level),
-    })
-}
-
-// One operation, with its line.
-fn operation(rt: &impl Print, game: Game, number: u64) -> io::Result<Game> {
-    let step = plan::drawn(game.plan, number == 0);
-    let ends = game.ends.play(step);
-    line::write(rt, number, step, ends)?;
-    let plan = step.plan;
-    Ok(Game { plan, ends })
-}
-
 fn replay(rt: &impl Print, level: Level) -> io::Result<()> {
-    let mut game = begun(rt, level)?;
-    let mut number: u64 = 0;
-    while number < 200 {
-        game = operation(rt, game, number)?;
-        number += 1;
+    let mut plan = Session::new(b"a plan for two ends, 2713", level).session;
+    let mut ends = Ends::new(level);
+    rt.write_all(&plan.version_str())?;
+    rt.write_all(b"\n")?;
+    for number in 0..200 {
+        let step = Step::drawn(plan, number == 0);
+        ends = ends.play(&step);
+        line::write(rt, number, &step, &ends)?;
+        plan = step.plan;
     }
-    line::write_states(rt, game.ends)
+    line::write_states(rt, &ends)
 }
 
 fn main(rt: HostRuntime) -> io::Result<()> {

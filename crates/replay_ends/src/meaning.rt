@@ -1,4 +1,4 @@
-// What the bytes that the plan gives for an operation mean:
+// What the bytes that the plan draws for an operation mean:
 //
 //   0      which of the twenty operations, as the first end does it
 //   1, 2   the length
@@ -9,103 +9,126 @@
 ghost use Rattle.std.specs.Prelude.{◌<◌};
 
 use crate::before::Attempt;
-use crate::flags;
-use crate::plan::Middle;
-use crate::reload::Reload;
-use strobe::Flags;
+use crate::plan::SIZE;
+use crate::reload::Edition;
+use strobe::{Flags, Operation};
 
-// What byte 3 has for an end.
-pub const FIRST: u8 = 1;
-
-pub const SECOND: u8 = 2;
+// An end, by the number that byte 3 has for it.
+#[derive(Clone, Copy)]
+pub enum Seat {
+    First = 1,
+    Second = 2,
+}
 
 // The limit of one call that receives a MAC. The plan keeps to it for sent ones, as each is received at the other end.
 pub const LONGEST_MAC: usize = 64;
 
 // In the order of docs/RULES.md, section 1, the plain forms before the meta forms.
-pub fn operation(byte: u8) -> Flags {
-    let place = byte % 20;
-    match place {
-        0 => Flags::AD,
-        1 => Flags::RATCHET,
-        2 => Flags::KEY,
-        3 => Flags::PRF,
-        4 => Flags::SEND_CLR,
-        5 => Flags::RECV_CLR,
-        6 => Flags::SEND_MAC,
-        7 => Flags::RECV_MAC,
-        8 => Flags::SEND_ENC,
-        9 => Flags::RECV_ENC,
-        10 => Flags::META_AD,
-        11 => Flags::META_RATCHET,
-        12 => Flags::META_KEY,
-        13 => Flags::META_PRF,
-        14 => Flags::META_SEND_CLR,
-        15 => Flags::META_RECV_CLR,
-        16 => Flags::META_SEND_MAC,
-        17 => Flags::META_RECV_MAC,
-        18 => Flags::META_SEND_ENC,
-        _ => Flags::META_RECV_ENC,
-    }
+const OPERATIONS: [Flags; 20] = [
+    Flags::AD,
+    Flags::RATCHET,
+    Flags::KEY,
+    Flags::PRF,
+    Flags::SEND_CLR,
+    Flags::RECV_CLR,
+    Flags::SEND_MAC,
+    Flags::RECV_MAC,
+    Flags::SEND_ENC,
+    Flags::RECV_ENC,
+    Flags::META_AD,
+    Flags::META_RATCHET,
+    Flags::META_KEY,
+    Flags::META_PRF,
+    Flags::META_SEND_CLR,
+    Flags::META_RECV_CLR,
+    Flags::META_SEND_MAC,
+    Flags::META_RECV_MAC,
+    Flags::META_SEND_ENC,
+    Flags::META_RECV_ENC,
+];
+
+// The bytes of an operation, of which the first is the opening.
+#[derive(Clone, Copy)]
+pub struct Draw {
+    pub bytes: [u8; 11],
+    pub opening: bool,
 }
 
-// Of the pieces one in four is longer than a block, the rest are below 32 bytes, where 0 is no cut. A received MAC can't be cut.
-pub fn size(flags: Flags, byte: u8) -> usize {
-    if flags::are_of(flags, Flags::RECV_MAC) {
-        return 0;
+impl Draw {
+    pub fn flags(self) -> Flags {
+        if self.opening {
+            return Flags::META_AD;
+        }
+        OPERATIONS[self.bytes[0] as usize % OPERATIONS.len()]
     }
-    if byte < 192 {
-        return (byte % 32) as usize;
-    }
-    byte as usize
-}
 
-// A MAC has any length up to its limit. Of the other lengths one in four is below 400, which can be more than two blocks, the rest are below 48.
-pub fn length(flags: Flags, high: u8, low: u8) -> usize
-    ensures { result < 400 }
-{
-    if flags::are_of(flags, Flags::SEND_MAC) || flags::are_of(flags, Flags::RECV_MAC) {
-        return low as usize % (LONGEST_MAC + 1);
+    // The opening is long, so that both ends cut it. A MAC has any length up to its limit. Of the other lengths one in four is below 400, which can be more
+    // than two blocks, the rest are below 48.
+    pub fn length(self, flags: Flags) -> usize
+        ensures { result < SIZE }
+    {
+        if self.opening {
+            return SIZE - 1;
+        }
+        let high = self.bytes[1] as usize;
+        let low = self.bytes[2] as usize;
+        match flags.operation() {
+            Operation::SendMac | Operation::RecvMac => low % (LONGEST_MAC + 1),
+            _ if high % 4 == 0 => (high / 4 * 256 + low) % SIZE,
+            _ => low % 48,
+        }
     }
-    if high % 4 == 0 {
-        return ((high / 4) as usize * 256 + low as usize) % 400;
-    }
-    (low % 48) as usize
-}
 
-// Of eight, 1 is edition 1 and 2 is edition 2. The opening continues the protocol name, which an end that is loaded in edition 1 can't.
-pub fn reload(opening: bool, byte: u8) -> Reload {
-    let edition = byte % 8;
-    if edition == 1 && !opening {
-        return Reload::Edition1;
+    // Of eight, 1 is the first end and 2 the second.
+    pub fn attempt(self, seat: Seat) -> Option<Attempt> {
+        if self.bytes[3] % 8 != seat as u8 {
+            return None;
+        }
+        Some(match self.bytes[4] % 5 {
+            0 => Attempt::KeyFlag,
+            1 => Attempt::NoOperation,
+            2 => Attempt::NotTheLast,
+            3 => Attempt::CutMac,
+            _ => Attempt::LongMac,
+        })
     }
-    if edition == 2 {
-        return Reload::Edition2;
-    }
-    Reload::Nothing
-}
 
-// In every second operation, after 128 to 255 bytes, counted round in a shorter one. A received MAC can't be cut.
-pub fn middle(flags: Flags, byte: u8, length: usize) -> Middle
-    requires { length < 400 }
-{
-    if flags::are_of(flags, Flags::RECV_MAC) || byte < 128 {
-        return Middle::Nothing;
+    // The three bytes that are the end's own.
+    fn own(self, seat: Seat) -> [u8; 3] {
+        let bytes = self.bytes;
+        match seat {
+            Seat::First => [bytes[5], bytes[6], bytes[7]],
+            Seat::Second => [bytes[8], bytes[9], bytes[10]],
+        }
     }
-    Middle::After(byte as usize % (length + 1))
-}
 
-// Of eight, 1 is the first end and 2 the second.
-pub fn attempt(who: u8, which: u8, end: u8) -> Attempt {
-    if who % 8 != end {
-        return Attempt::Nothing;
+    // Of the pieces one in four is longer than a block, the rest are below 32 bytes, where 0 is no cut. A received MAC can't be cut.
+    pub fn size(self, seat: Seat, flags: Flags) -> usize {
+        let byte = self.own(seat)[0] as usize;
+        match flags.operation() {
+            Operation::RecvMac => 0,
+            _ if byte < 192 => byte % 32,
+            _ => byte,
+        }
     }
-    let place = which % 5;
-    match place {
-        0 => Attempt::KeyFlag,
-        1 => Attempt::NoOperation,
-        2 => Attempt::NotTheLast,
-        3 => Attempt::CutMac,
-        _ => Attempt::LongMac,
+
+    // Of eight, 1 is edition 1 and 2 is edition 2. The opening continues the protocol name, which an end that is loaded in edition 1 can't.
+    pub fn reload(self, seat: Seat) -> Option<Edition> {
+        match self.own(seat)[1] % 8 {
+            1 if !self.opening => Some(Edition::One),
+            2 => Some(Edition::Two),
+            _ => None,
+        }
+    }
+
+    // In every second operation, after 128 to 255 bytes, counted round in a shorter one. A received MAC can't be cut.
+    pub fn middle(self, seat: Seat, flags: Flags, length: usize) -> Option<usize>
+        requires { length < SIZE }
+    {
+        let byte = self.own(seat)[2];
+        if flags.operation() == Operation::RecvMac || byte < 128 {
+            return None;
+        }
+        Some(byte as usize % (length + 1))
     }
 }

@@ -1,37 +1,28 @@
 // The plan: what both ends do in an operation, drawn from a session of its own.
 ghost use Rattle.std.specs.Prelude.{◌<◌};
+ghost use Rattle.replay_ends.specs.declared.plan.TheConstants.{SIZE};
 
 use crate::before::Attempt;
-use crate::reload::Reload;
-use crate::{flags, meaning};
+use crate::flags;
+use crate::meaning::{Draw, Seat};
+use crate::reload::Edition;
 use strobe::{Flags, Session};
 
-// Where an end is saved and loaded again, if it is: after so many bytes of the operation.
-#[derive(Clone, Copy)]
-pub enum Middle {
-    Nothing,
-    After(usize),
-}
+// The bytes that are lent.
+pub const SIZE: usize = 400;
 
-// What one end does.
+// What one end does: on the first bytes of those lent, in pieces of a size, 0 for no cut; where it is saved and loaded again before it, and after how
+// many bytes of it; and which call that is refused it tries before.
 #[derive(Clone, Copy)]
 pub struct Part {
     pub flags: Flags,
     pub more: bool,
     pub size: usize,
-    length: usize,
-    pub reload: Reload,
-    pub middle: Middle,
-    pub attempt: Attempt,
-}
-
-impl Part {
-    // Every length is below 400, which its type does not say.
-    pub fn len(self) -> usize
-        ensures { result < 400 }
-    {
-        self.length % 400
-    }
+    pub length: usize,
+    pub reload: Option<Edition>,
+    pub middle: Option<usize>,
+    pub attempt: Option<Attempt>,
+    ghost within: { length < SIZE },
 }
 
 // What both do, the data, and the plan's session behind them.
@@ -39,58 +30,39 @@ impl Part {
 pub struct Step {
     pub first: Part,
     pub second: Part,
-    pub data: [u8; 400],
+    pub data: [u8; SIZE],
     pub plan: Session,
 }
 
-// The opening is long, so that both ends cut it.
-fn length(bytes: [u8; 11], opening: bool, flags: Flags) -> usize
-    ensures { result < 400 }
-{
-    if opening {
-        return 399;
-    }
-    meaning::length(flags, bytes[1], bytes[2])
-}
-
-// Three of the bytes are the end's own.
-fn part_of(bytes: [u8; 11], opening: bool, flags: Flags, own: [u8; 3], end: u8) -> Part {
-    let length = length(bytes, opening, flags);
-    Part {
-        flags,
-        more: opening,
-        size: meaning::size(flags, own[0]),
-        length,
-        reload: meaning::reload(opening, own[1]),
-        middle: meaning::middle(flags, own[2], length),
-        attempt: meaning::attempt(bytes[3], bytes[4], end),
+impl Part {
+    fn new(draw: Draw, seat: Seat, flags: Flags) -> Part {
+        let length = draw.length(flags);
+        Part {
+            flags,
+            more: draw.opening,
+            size: draw.size(seat, flags),
+            length,
+            reload: draw.reload(seat),
+            middle: draw.middle(seat, flags, length),
+            attempt: draw.attempt(seat),
+        }
     }
 }
 
-// One prf says what is done, a second one gives the data.
-pub fn drawn(plan: Session, opening: bool) -> Step {
-    let mut bytes = [0u8; 11];
-    let told = plan.prf(&mut bytes, false);
-    let mut data = [0u8; 400];
-    let filled = told.session.prf(&mut data, false);
-    let flags = if opening {
-        Flags::META_AD
-    } else {
-        meaning::operation(bytes[0])
-    };
-    let first = [bytes[5], bytes[6], bytes[7]];
-    let second = [bytes[8], bytes[9], bytes[10]];
-    let plan = filled.session;
-    Step {
-        first: part_of(bytes, opening, flags, first, meaning::FIRST),
-        second: part_of(
-            bytes,
-            opening,
-            flags::mirror(flags),
-            second,
-            meaning::SECOND,
-        ),
-        data,
-        plan,
+impl Step {
+    // One prf says what is done, a second one gives the data.
+    pub fn drawn(plan: Session, opening: bool) -> Step {
+        let mut bytes = [0u8; 11];
+        let told = plan.prf(&mut bytes, false);
+        let mut data = [0u8; SIZE];
+        let filled = told.session.prf(&mut data, false);
+        let draw = Draw { bytes, opening };
+        let flags = draw.flags();
+        Step {
+            first: Part::new(draw, Seat::First, flags),
+            second: Part::new(draw, Seat::Second, flags::mirror(flags)),
+            data,
+            plan: filled.session,
+        }
     }
 }
