@@ -9,6 +9,5 @@ ghost use Rattle.fips202.specs.Bytes.{keccak_f1600};
 pub fn bench_permute(state: &mut [u8; 200])
     ensures { state.new ≡ keccak_f1600 state.old }
 {
-    let permuted = keccak::permute(*state);
-    *state = permuted;
+    *state = keccak::permute(*state);
 }
