@@ -1,16 +1,18 @@
 -- Laws of a call: the flags that are mixed in, the refusals, the opening, and the work's outcome. Assumes nothing.
 use Prim.Native.Nat.{ℕ, zero, suc, ◌≤◌, ◌<◌}
-use mathlib.Core.Path.{◌≡◌, refl, sym, ap, ◌∙◌}
+use mathlib.Core.Path.{◌≡◌, refl, sym, ap, subst, ◌∙◌}
 use mathlib.Core.List.{List}
 use mathlib.Core.Bool.{Bool, true, false, not, cond, ◌&&◌}
 use lib.Dec.{ltb, leb, lit≤}
 use lib.ListN.{length, replicate, length-replicate}
 use borrow.Author.Tests.{lt-ltb, ltb-true, le-leb, leb-true}
 use native.Mathlib.Omega.{arith}
+use denote.Ref.{MutBor}
+use Rattle.std.specs.Fn.{Mut, Called, CalledAtMut}
 use Rattle.laws.proofs.Bools.{and_left, and_right}
 use Rattle.strobe.specs.Duplex.{Sponge, Duplex, Rule, met, same}
 use Rattle.strobe.specs.Flags.{K, META_AD, has, operation_of, operation, is_recv_mac, zeroing, overwriting, rule_of}
-use Rattle.strobe.specs.Loops.{duplex_of, Fed, Ran, strobe_of}
+use Rattle.strobe.specs.Loops.{duplex_of, Fed, Ran, strobe_of, among, takers, changers, macs, ratchets, KeepsRate, Worked, Settles, Operates}
 use Rattle.strobe.specs.Session.{rate_of, sponge, sponge_of, seen, held, given, fresh_at, Is, Comes, Calls}
 use Rattle.strobe.specs.Strobe.{Strobe, disagrees, opened, known_last, well_formed, refusal, verdict, worked, settled, call, unnamed, fresh}
 use Rattle.strobe.specs.Answer.{number}
@@ -28,6 +30,7 @@ use Rattle.strobe.specs.declared.direction.Direction.{Direction}
 use Rattle.strobe.specs.declared.direction.Direction.TheVariants.{Neither, Sender, Receiver}
 use Rattle.strobe.specs.declared.session.Session.{Session}
 use Rattle.strobe.proofs.Data.{Ordered, out-kept, after_zeros}
+use Rattle.strobe.proofs.Twenty.{takers_keep, takers_no_mac, changers_no_mac, macs_are, ratchets_are}
 
 pub rate_small : (l : Level) → rate_of l ≤ 166
 rate_small B128 = lit≤ tt
@@ -105,45 +108,120 @@ module _ (s : Session) (f : Flags) (more : Bool) (bs : List ℕ) where
       let u = settled_not (sponge_of s.level) (number a) (seen s) f more bs (λ z. h (number_zero a z)) in
       record { outcome = record { answer = rw (← e, u); session = rw (← e, u) }; lent = rw (← e, u) }
 
-  -- opened and worked on, it is the definition's call
-  pub finish : (t : Answer) → number t ≡ refusal (rate_of s.level) (seen s) f more (length bs) → t ≡ Done
-      → (n : Open) → strobe_of n ≡ seen s → n.level ≡ s.level
-      → (o : Open) → strobe_of o ≡ opened (sponge_of n.level) (strobe_of n) f more → o.level ≡ n.level
-      → (st : State) (bs' : List ℕ) → Ran (rule_of (operation f)) o.state bs st bs'
-      → (a : Answer) → number a ≡ verdict (sponge o.state.rate) (operation f) (duplex_of o.state) bs
-      → Calls s f more bs (record { session = held o.level (record { duplex = duplex_of st; direction = o.direction; last = o.last }); answer = a }) bs'
-  unfolding call settled worked
-  finish t et ed n en ln o eo lo st bs' w a v =
-      let go = sym et ∙ ap number ed in
-      let l = lo ∙ ln in
-      let e = rw (ln, en) at eo in
-      let r : o.state.rate ≡ rate_of s.level = o.rated ∙ ap rate_of l in
-      let fed = rw r at w.fed.duplex in
-      record {
-        outcome = record {
-          answer = rw (go, ← e) (rw r at v);
-          session = rw (go, ← e, l) (ap (λ (d : Duplex). held s.level (record { duplex = d; direction = o.direction; last = o.last })) fed);
-        };
-        lent = rw (go, ← e) (rw r at w.lent);
-      }
-
 -- only a received MAC is judged
 pub verdict-done : (sp : Sponge) (o : Operation) (d : Duplex) (bs : List ℕ) → is_recv_mac o ≡ false → 0 ≡ verdict sp o d bs
 unfolding verdict
 verdict-done sp o d bs e = rw e
 
-pub verdict_mac : (sp : Sponge) (o : Operation) (d : Duplex) (bs : List ℕ) (n : ℕ) (t : Bool) → o ≡ RecvMac
-    → n ≡ cond t 0 9 → t ≡ same (met sp overwriting d bs) bs → n ≡ verdict sp o d bs
+verdict_mac : (sp : Sponge) (o : Operation) (d : Duplex) (bs : List ℕ) (n : ℕ) → o ≡ RecvMac
+    → n ≡ cond (same (met sp overwriting d bs) bs) 0 9 → n ≡ verdict sp o d bs
 unfolding verdict
-verdict_mac sp o d bs n t e h g = rw (e, ← g) (h ∙ go t)
+verdict_mac sp o d bs n e h = rw e (h ∙ go (same (met sp overwriting d bs) bs))
   where
     go : (t : Bool) → cond {A = ℕ} t 0 9 ≡ cond (not t) 9 0
     go true = refl
     go false = refl
 
 -- the work of an operation that keeps the lent bytes
-pub feeding : (r : Rule) (st : State) (bs : List ℕ) (st' : State) → ((x b : ℕ) → r.buffer x b ≡ b) → Fed r st bs st' → Ran r st bs st' bs
+feeding : (r : Rule) (st : State) (bs : List ℕ) (st' : State) → ((x b : ℕ) → r.buffer x b ≡ b) → Fed r st bs st' → Ran r st bs st' bs
 feeding r st bs st' keep h = record { fed = h; lent = sym (out-kept (sponge st.rate) r (duplex_of st) bs keep) }
+
+-- a work that keeps the rate keeps it in the call that it had
+pub kept_rate : {W : Type 0} (g : Mut W (MutBor State × Unit {0}) (Answer × (MutBor State × Unit {0}))) {w w' : W} {a : Answer} {y y' : MutBor State}
+    → KeepsRate g → Called g w (y, tt) (a, (y', tt)) w' → y'.now.rate ≡ y.now.rate
+kept_rate g {w} {w'} {a} {y} {y'} h k = h w y.now a w' y'.now (record { shown = y; shows = refl; left = y'; called = k; leaves = refl })
+
+-- a call over its work: what `operated` gives, and what the call then is
+module _ {W : Type 0} (g : Mut W (MutBor State × Unit {0}) (Answer × (MutBor State × Unit {0}))) (s : Session) (f : Flags) (more : Bool) (w : W) where
+  pub refused_work : (n : ℕ) (a : Answer) → (a ≡ Done → ⊥) → number a ≡ refusal (rate_of s.level) (seen s) f more n
+      → Operates g s f more n w (record { session = s; answer = a }) w
+  refused_work n a h e = record { settled = go (refusal (rate_of s.level) (seen s) f more n) e }
+    where
+      go : (k : ℕ) → number a ≡ k → Settles g k s f more w (record { session = s; answer = a }) w
+      go zero e = absurd (h (number_zero a e))
+      go (suc k) e = (e, refl, refl)
+
+  pub done_work : (n : ℕ) (t : Answer) → number t ≡ refusal (rate_of s.level) (seen s) f more n → t ≡ Done
+      → (b : Open) → strobe_of b ≡ seen s → b.level ≡ s.level
+      → (o : Open) → strobe_of o ≡ opened (sponge_of b.level) (strobe_of b) f more → o.level ≡ b.level
+      → {a : Answer} {w' : W} {y y' : MutBor State} → y.now ≡ o.state → Called g w (y, tt) (a, (y', tt)) w'
+      → Operates g s f more n w (record { session = held o.level (record { duplex = duplex_of y'.now; direction = o.direction; last = o.last }); answer = a }) w'
+  done_work n t et ed b eb lb o eo lo {y = y} {y' = y'} ey k =
+      let go = sym et ∙ ap number ed in
+      let l = lo ∙ lb in
+      record {
+        settled = rw go
+            (record {
+              begun = o;
+              strobe = rw (lb, eb) at eo;
+              level = l;
+              left = y'.now;
+              called = record { shown = y; shows = ey; left = y'; called = k; leaves = refl };
+              session = ap (λ (v : Level). held v (record { duplex = duplex_of y'.now; direction = o.direction; last = o.last })) l;
+            });
+      }
+
+  module _ (bs bs' : List ℕ) (r : Outcome) (w' : W)
+      (ran : (o : State) (a : Answer) (st : State) → CalledAtMut g w o a w' st → Ran (rule_of (operation f)) o bs st bs')
+      (judged : (o : State) (a : Answer) (st : State) → CalledAtMut g w o a w' st → number a ≡ verdict (sponge o.rate) (operation f) (duplex_of o) bs) where
+    worked_on : refusal (rate_of s.level) (seen s) f more (length bs) ≡ 0 → Worked g s f more w r w' → Calls s f more bs r bs'
+    unfolding call settled worked
+    worked_on go k =
+        let o = k.begun in
+        let e = k.strobe in
+        let rt : o.state.rate ≡ rate_of s.level = o.rated ∙ ap rate_of k.level in
+        let m = ran o.state r.answer k.left k.called in
+        let fed = rw rt at m.fed.duplex in
+        record {
+          outcome = record {
+            answer = rw (go, ← e) (rw rt at (judged o.state r.answer k.left k.called));
+            session = rw (go, ← e) (k.session ∙ ap (λ (d : Duplex). held s.level (record { duplex = d; direction = o.direction; last = o.last })) fed);
+          };
+          lent = rw (go, ← e) (rw rt at m.lent);
+        }
+
+    operated : (w' ≡ w → bs' ≡ bs) → (n : ℕ) → length bs ≡ n → Operates g s f more n w r w' → Calls s f more bs r bs'
+    operated kept n l h = go (refusal (rate_of s.level) (seen s) f more (length bs)) refl (rw l h.settled)
+      where
+        go : (n : ℕ) → refusal (rate_of s.level) (seen s) f more (length bs) ≡ n → Settles g n s f more w r w' → Calls s f more bs r bs'
+        go zero e h = worked_on e h
+        go (suc n) e h =
+            subst (λ (v : Session). Calls s f more bs (record { session = v; answer = r.answer }) bs') (sym h.1)
+            (subst (Calls s f more bs (record { session = s; answer = r.answer })) (sym (kept h.2))
+            (refused s f more bs r.answer (λ d. let z : ◌≡◌ {A = ℕ} 0 (suc n) = sym (ap number d) ∙ h.0 in omega arith) (h.0 ∙ sym e)))
+
+  -- the four kinds of work
+  module _ (r : Outcome) (w' : W) where
+    pub changed : (bs bs' : List ℕ) → Operates g s f more (length bs) w r w' → among changers f ≡ true → (w' ≡ w → bs' ≡ bs)
+        → ((o : State) (a : Answer) (st : State) → CalledAtMut g w o a w' st → Ran (rule_of (operation f)) o bs st bs')
+        → ((o : State) (a : Answer) (st : State) → CalledAtMut g w o a w' st → a ≡ Done)
+        → Calls s f more bs r bs'
+    changed bs bs' h m kept ran done =
+        operated bs bs' r w' ran (λ o a st k. ap number (done o a st k) ∙ verdict-done _ _ _ _ (changers_no_mac f m)) kept _ refl h
+
+    pub took : (bs : List ℕ) → Operates g s f more (length bs) w r w' → among takers f ≡ true
+        → ((o : State) (a : Answer) (st : State) → CalledAtMut g w o a w' st → Fed (rule_of (operation f)) o bs st)
+        → ((o : State) (a : Answer) (st : State) → CalledAtMut g w o a w' st → a ≡ Done)
+        → Calls s f more bs r bs
+    took bs h m fed done =
+        operated bs bs r w' (λ o a st k. feeding _ _ _ _ (takers_keep f m) (fed o a st k))
+        (λ o a st k. ap number (done o a st k) ∙ verdict-done _ _ _ _ (takers_no_mac f m)) (λ e. refl) _ refl h
+
+    pub judged : (bs : List ℕ) → Operates g s f more (length bs) w r w' → among macs f ≡ true
+        → ((o : State) (a : Answer) (st : State) → CalledAtMut g w o a w' st → Fed overwriting o bs st)
+        → ((o : State) (a : Answer) (st : State) → CalledAtMut g w o a w' st → number a ≡ cond (same (met (sponge o.rate) overwriting (duplex_of o) bs) bs) 0 9)
+        → Calls s f more bs r bs
+    judged bs h m fed is =
+        operated bs bs r w' (λ o a st k. rw (macs_are f m) (feeding overwriting o bs st (λ x b. refl) (fed o a st k)))
+        (λ o a st k. verdict_mac _ _ _ _ _ (macs_are f m) (is o a st k)) (λ e. refl) _ refl h
+
+    pub zeroed : (n : ℕ) → Operates g s f more n w r w' → among ratchets f ≡ true
+        → ((o : State) (a : Answer) (st : State) → CalledAtMut g w o a w' st → Fed zeroing o (replicate n 0) st)
+        → ((o : State) (a : Answer) (st : State) → CalledAtMut g w o a w' st → a ≡ Done)
+        → Calls s f more (replicate n 0) r (replicate n 0)
+    zeroed n h m fed done =
+        operated (replicate n 0) (replicate n 0) r w' (λ o a st k. rw (ratchets_are f m) (feeding zeroing o (replicate n 0) st (λ x b. refl) (fed o a st k)))
+        (λ o a st k. ap number (done o a st k) ∙ verdict-done _ _ _ _ (ap is_recv_mac (ratchets_are f m))) (λ e. refl) n (length-replicate n 0) h
 
 -- a ratchet looks at no byte
 pub ratchet_any : (s : Session) (f : Flags) (more : Bool) (bs : List ℕ) (r : Outcome) → operation f ≡ Ratchet

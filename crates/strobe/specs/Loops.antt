@@ -1,9 +1,15 @@
 -- What the private byte loops ask and give, for Keccak-f[1600] at a rate. Nothing here is to be believed: no promise of a public function cites it.
-use Rattle.std.specs.Prelude.{Bool, false, ◌||◌, List, [], ◌∷◌, ◌≡◌, ℕ, ◌+◌, eqb, get_or, set}
+use Rattle.std.specs.Borrow.{MutBor}
+use Rattle.std.specs.Fn.{Mut, CalledAtMut}
+use Rattle.std.specs.Prelude.{Bool, false, ◌||◌, List, [], ◌∷◌, ◌≡◌, ℕ, zero, suc, ◌+◌, eqb, get_or, set}
+use Rattle.strobe.specs.Answer.{number}
 use Rattle.strobe.specs.Duplex.{Duplex, Rule, after, out, met, same}
 use Rattle.strobe.specs.Flags.{AD, RATCHET, KEY, PRF, SEND_CLR, RECV_CLR, SEND_MAC, RECV_MAC, SEND_ENC, RECV_ENC, META_AD, META_RATCHET, META_KEY, META_PRF, META_SEND_CLR, META_RECV_CLR, META_SEND_MAC, META_RECV_MAC, META_SEND_ENC, META_RECV_ENC}
-use Rattle.strobe.specs.Session.{sponge}
-use Rattle.strobe.specs.Strobe.{Strobe}
+use Rattle.strobe.specs.Session.{rate_of, sponge, sponge_of, seen, held}
+use Rattle.strobe.specs.Strobe.{Strobe, opened, refusal}
+use Rattle.strobe.specs.declared.answer.Answer.{Answer}
+use Rattle.strobe.specs.declared.session.Session.{Session}
+use Rattle.strobe.specs.declared.session.Outcome.{Outcome}
 use Rattle.strobe.specs.declared.opening.Open.{Open}
 use Rattle.strobe.specs.declared.flags.Flags.{Flags}
 use Rattle.strobe.specs.declared.duplex.State.{State}
@@ -68,3 +74,27 @@ ratchets = RATCHET ∷ META_RATCHET ∷ []
 -- what an opened session is, as the definitions see it
 abbrev pub strobe_of : Open → Strobe
 strobe_of o = record { duplex = duplex_of o.state; direction = o.direction; last = o.last }
+
+-- ---- a call, whatever its work
+
+module _ {W : Type 0} (g : Mut W (MutBor State × Unit {0}) (Answer × (MutBor State × Unit {0}))) where
+  -- the work leaves each state at its rate
+  abbrev pub KeepsRate : Type 0
+  KeepsRate = (w : W) (s : State) (a : Answer) (w' : W) (s' : State) → CalledAtMut g w s a w' s' → s'.rate ≡ s.rate
+
+  -- the work was done once, on the opened session's state
+  pub record Worked (s : Session) (f : Flags) (more : Bool) (w : W) (r : Outcome) (w' : W) : Type 0 where
+    pub begun : Open
+    pub strobe : strobe_of begun ≡ opened (sponge_of s.level) (seen s) f more
+    pub level : begun.level ≡ s.level
+    pub left : State
+    pub called : CalledAtMut g w begun.state r.answer w' left
+    pub session : r.session ≡ held s.level (record { duplex = duplex_of left; direction = begun.direction; last = begun.last })
+
+  -- by the refusal's number: with one, no work was done
+  abbrev pub Settles : ℕ → Session → Flags → Bool → W → Outcome → W → Type 0
+  Settles zero s f more w r w' = Worked s f more w r w'
+  Settles (suc n) s f more w r w' = (number r.answer ≡ suc n) × (r.session ≡ s) × (w' ≡ w)
+
+  pub record Operates (s : Session) (f : Flags) (more : Bool) (n : ℕ) (w : W) (r : Outcome) (w' : W) : Type 0 where
+    pub settled : Settles (refusal (rate_of s.level) (seen s) f more n) s f more w r w'

@@ -1,9 +1,10 @@
 // The work of a call, divided as strobe-rs divides it, and the call by number.
 ghost use Rattle.std.specs.Prelude.{◌≡◌, true, cond, replicate};
 ghost use Rattle.strobe.specs.Answer.{number, done, mac_unequal};
-ghost use Rattle.strobe.specs.Flags.{operation, rule_of};
-ghost use Rattle.strobe.specs.Loops.{among, takers, changers, macs, ratchets, Fed, Ran};
-ghost use Rattle.strobe.specs.Session.{Calls};
+ghost use Rattle.strobe.specs.Duplex.{met, same};
+ghost use Rattle.strobe.specs.Flags.{operation, overwriting, rule_of};
+ghost use Rattle.strobe.specs.Loops.{among, takers, changers, macs, ratchets, duplex_of, Fed, Ran, KeepsRate, Operates};
+ghost use Rattle.strobe.specs.Session.{sponge, Calls};
 
 use crate::answer::Answer;
 use crate::duplex::State;
@@ -42,82 +43,35 @@ impl State {
             self.run::<Copying>(buf);
         }
     }
-}
 
-// Whether a received MAC was the state's.
-fn verdict(same: bool) -> Answer
-    ensures { number result ≡ cond same done mac_unequal }
-{
-    if same {
-        Answer::Done
-    } else {
-        Answer::MacUnequal
+    // A received MAC is taken in whether or not it is the state's.
+    fn judge(&mut self, mac: &[u8]) -> Answer
+        ensures taken { Fed overwriting self.old mac.now self.new }
+        ensures judged { number result ≡ cond (same (met (sponge self.old.rate) overwriting (duplex_of self.old) mac.now) mac.now) done mac_unequal }
+    {
+        if self.check_mac(mac) {
+            Answer::Done
+        } else {
+            Answer::MacUnequal
+        }
     }
 }
 
 impl Session {
-    // An operation that changes the lent bytes.
-    #[tactic(auto, using(crate::proofs::Calls::passed, crate::proofs::Calls::refused))]
-    pub(crate) fn operate(self, flags: Flags, more: bool, buf: &mut [u8]) -> Outcome
-        requires { among changers flags ≡ true }
-        ensures { Calls self flags more buf.old result buf.new }
-    {
-        let answer = self.tested(flags, more, buf.len());
-        let Answer::Done = answer else {
-            return Outcome {
-                session: self,
-                answer,
-            };
-        };
-        let mut open = Open::new(self);
-        open.begin(flags, more);
-        open.state.change(flags, buf);
-        open.outcome(Answer::Done)
-    }
-
-    // An operation that only takes the lent bytes in.
-    #[tactic(auto, using(crate::proofs::Calls::passed, crate::proofs::Calls::refused))]
-    pub(crate) fn operate_no_mutate(self, flags: Flags, more: bool, bytes: &[u8]) -> Outcome
-        requires { among takers flags ≡ true }
-        ensures { Calls self flags more bytes.now result bytes.now }
-    {
-        let answer = self.tested(flags, more, bytes.len());
-        let Answer::Done = answer else {
-            return Outcome {
-                session: self,
-                answer,
-            };
-        };
-        let mut open = Open::new(self);
-        open.begin(flags, more);
-        open.state.take_in(flags, bytes);
-        open.outcome(Answer::Done)
-    }
-
-    // A received MAC: one that is not the state's is taken in too.
-    #[tactic(auto, using(crate::proofs::Calls::passed, crate::proofs::Calls::refused))]
-    pub(crate) fn generalized_recv_mac(self, flags: Flags, more: bool, mac: &[u8]) -> Outcome
-        requires { among macs flags ≡ true }
-        ensures { Calls self flags more mac.now result mac.now }
-    {
-        let answer = self.tested(flags, more, mac.len());
-        let Answer::Done = answer else {
-            return Outcome {
-                session: self,
-                answer,
-            };
-        };
-        let mut open = Open::new(self);
-        open.begin(flags, more);
-        let same = open.state.check_mac(mac);
-        open.outcome(verdict(same))
-    }
-
-    // A ratchet: a count, no bytes.
-    #[tactic(auto, using(crate::proofs::Calls::passed))]
-    pub(crate) fn generalized_ratchet(self, flags: Flags, more: bool, n: usize) -> Outcome
-        requires { among ratchets flags ≡ true }
-        ensures { Calls self flags more (replicate n 0) result (replicate n 0) }
+    // What all calls share, around their work on the opened state. The work is lent: only then is it known what it leaves in a buffer that it writes.
+    #[tactic(auto, using(crate::proofs::Calls::passed, crate::proofs::Calls::refused_work))]
+    // Inlined, it would copy the outcome once more.
+    #[inline(never)]
+    fn operated<W: FnMut(&mut State) -> Answer>(
+        self,
+        flags: Flags,
+        more: bool,
+        n: usize,
+        work: &mut W,
+    ) -> Outcome
+        requires callable { (state : _) → W.pre work.old state }
+        requires rated { KeepsRate W.FnMut }
+        ensures { Operates W.FnMut self flags more n work.old result work.new }
     {
         let answer = self.tested(flags, more, n);
         let Answer::Done = answer else {
@@ -128,8 +82,67 @@ impl Session {
         };
         let mut open = Open::new(self);
         open.begin(flags, more);
-        open.state.zero(n);
-        open.outcome(Answer::Done)
+        let answer = work(&mut open.state);
+        open.outcome(answer)
+    }
+
+    // An operation that changes the lent bytes.
+    pub(crate) fn operate(self, flags: Flags, more: bool, buf: &mut [u8]) -> Outcome
+        requires { among changers flags ≡ true }
+        ensures { Calls self flags more buf.old result buf.new }
+    {
+        self.operated(
+            flags,
+            more,
+            buf.len(),
+            &mut |state| {
+                state.change(flags, buf);
+                Answer::Done
+            },
+        )
+    }
+
+    // An operation that only takes the lent bytes in.
+    #[tactic(auto, using(crate::proofs::Calls::took))]
+    pub(crate) fn operate_no_mutate(self, flags: Flags, more: bool, bytes: &[u8]) -> Outcome
+        requires { among takers flags ≡ true }
+        ensures { Calls self flags more bytes.now result bytes.now }
+    {
+        self.operated(
+            flags,
+            more,
+            bytes.len(),
+            &mut |state| {
+                state.take_in(flags, bytes);
+                Answer::Done
+            },
+        )
+    }
+
+    // A received MAC.
+    #[tactic(auto, using(crate::proofs::Calls::judged))]
+    pub(crate) fn generalized_recv_mac(self, flags: Flags, more: bool, mac: &[u8]) -> Outcome
+        requires { among macs flags ≡ true }
+        ensures { Calls self flags more mac.now result mac.now }
+    {
+        self.operated(flags, more, mac.len(), &mut |state| state.judge(mac))
+    }
+
+    // A ratchet: a count, no bytes.
+    #[tactic(auto, using(crate::proofs::Calls::zeroed))]
+    pub(crate) fn generalized_ratchet(self, flags: Flags, more: bool, n: usize) -> Outcome
+        requires { among ratchets flags ≡ true }
+        ensures { Calls self flags more (replicate n 0) result (replicate n 0) }
+    {
+        self.operated(
+            flags,
+            more,
+            n,
+            &mut |state| {
+                state.zero(n);
+                Answer::Done
+            },
+        )
     }
 
     // The call by number: the operation is the flag byte's. A ratchet's count is the buffer's length.
