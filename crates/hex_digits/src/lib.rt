@@ -4,7 +4,7 @@
 mod text;
 
 ghost use Rattle.std.specs.Prelude.{◌≡◌, [], ◌∷◌, ◌/◌, ◌%◌, ◌<◌};
-ghost use Rattle.hex_digits.specs.Digits.{digit_of, digit_value, pair_value};
+ghost use Rattle.hex_digits.specs.Digits.{digit_of, value_of, digit_value, pair_value};
 
 pub use text::Hex;
 
@@ -36,21 +36,29 @@ pub fn of(byte: u8) -> [u8; 2]
     [upper_digit(byte), lower_digit(byte)]
 }
 
-// The number that a digit stands for.
+// The number that a digit stands for, or 16 where the byte is no digit.
 #[tactic(auto, unfolding(crate::specs::Digits::value_of))]
-pub fn value(digit: u8) -> Option<u8>
-    ensures { result ≡ digit_value digit }
+pub fn value(byte: u8) -> u8
+    ensures { result ≡ value_of byte }
 {
-    match digit {
-        b'0'..=b'9' => Some(digit - b'0'),
-        b'a'..=b'f' => Some(digit - b'a' + 10),
-        _ => None,
+    match byte {
+        b'0'..=b'9' => byte - b'0',
+        b'a'..=b'f' => byte - b'a' + 10,
+        _ => 16,
     }
+}
+
+// The number that a digit stands for, if the byte is one.
+pub fn number(byte: u8) -> Option<u8>
+    ensures { result ≡ digit_value byte }
+{
+    let value = value(byte);
+    (value < 16).then_some(value)
 }
 
 // The byte that two digits stand for.
 pub fn byte(upper: u8, lower: u8) -> Option<u8>
     ensures { result ≡ pair_value upper lower }
 {
-    Some(value(upper)? * 16 + value(lower)?)
+    Some(number(upper)? * 16 + number(lower)?)
 }
