@@ -115,9 +115,6 @@ module _ (l : Line) (o : Option (Bor (List ℕ))) (b : Bor (List ℕ)) (told : s
   pub length-payload : length payload ≡ length b.now - 2
   length-payload = omega (arith, length-take (length b.now - 2) (drop 2 b.now), length-drop 2 b.now)
 
-  pub payload_fits : length payload ≤ limit
-  payload_fits = omega (arith, length-payload, said_most l b.now long reads_bytes)
-
   -- it stands in the buffer
   pub payload_is_lent : take (length payload + 2 - 2) (drop 2 l.buffer) ≡ payload
   payload_is_lent = lent_from l b.now (length payload + 2 - 2) reads_bytes some (omega (arith, length-payload))

@@ -7,7 +7,7 @@ use Rattle.frames.specs.Hexadecimal.{Read, misshapen, bytes}
 use Rattle.frames.specs.Frames.{Said, refused, count_of, opening, framed}
 use Rattle.frames.specs.Lines.{newline}
 use Rattle.frames.specs.Steps.{Part, read}
-use Rattle.frames.specs.declared.frame.Called.{Called}
+use Rattle.frames.specs.declared.called.Called.{Called}
 use Rattle.frames.specs.declared.journal.Stage.{Stage}
 use Rattle.frames.specs.declared.journal.Stage.TheVariants.{First, Later, Ended}
 

@@ -1,5 +1,5 @@
 // An answer as a line of text.
-ghost use Rattle.std.specs.Prelude.{◌≡◌, ◌+◌, ◌*◌, ◌≤◌, length};
+ghost use Rattle.std.specs.Prelude.{◌+◌, ◌*◌, ◌≤◌, length};
 ghost use Rattle.frames.specs.Hexadecimal.{encode};
 ghost use Rattle.frames.specs.Journal.{answer_line};
 ghost use Rattle.frames.specs.Inside.{Writes};

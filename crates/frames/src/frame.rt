@@ -8,19 +8,12 @@ ghost use Rattle.frames.specs.Frames.{limit, level_of, shows, opening, calling, 
 ghost use Rattle.frames.specs.Steps.{part_of, read_of};
 ghost use Rattle.frames.specs.Inside.{counted_by, told_by, called, unshown};
 
+use crate::called::Called;
 use crate::line::Line;
 use strobe::{Answer, Flags, Operation, Outcome, Session};
 
 // The bytes of a protocol name, and the count of a prf or a send_mac, are at most so many.
 const LIMIT: usize = 4096;
-
-// What comes of a line in shape.
-#[derive(Clone, Copy)]
-pub struct Called<'a> {
-    pub outcome: Outcome,
-    // what is shown of the line's buffer
-    pub shown: &'a [u8],
-}
 
 // The level of a level byte; 0 is none, and creation by number refuses it.
 fn level_of(byte: u8) -> usize
@@ -36,8 +29,7 @@ fn level_of(byte: u8) -> usize
 // A first line: a level byte and a protocol name. `None` is out of shape.
 #[tactic(auto, unfolding(crate::specs::Frames::opening))]
 pub fn open(line: &Line) -> Option<Called<'_>>
-    ensures said { (session : Session) → told_by session result ≡ opening session (read_of (part_of line.now)) }
-    ensures shown { IfSome result (λ called. length called.shown.now ≤ limit) }
+    ensures { (session : Session) → told_by session result ≡ opening session (read_of (part_of line.now)) }
 {
     let (level, name) = line.said()?.split_first()?;
     if name.len() > LIMIT {
@@ -85,17 +77,11 @@ fn ratchet(session: &Session, flags: Flags, more: bool, count: usize) -> Outcome
 // A call on a buffer.
 #[tactic(auto, unfolding(crate::specs::Frames::calling))]
 fn call<'a>(session: &Session, flags: Flags, more: bool, buffer: &'a mut [u8]) -> Called<'a>
-    ensures said { called result ≡ calling session.now flags more (bytes buffer.old) }
-    ensures shown { length result.shown.now ≤ length buffer.old }
+    requires { length buffer.old ≤ limit }
+    ensures { called result ≡ calling session.now flags more (bytes buffer.old) }
 {
     let outcome = session.call(flags, more, buffer);
-    let Answer::Done = outcome.answer else {
-        return Called {
-            outcome,
-            shown: &[],
-        };
-    };
-    if !shows(flags.operation()) {
+    if outcome.answer != Answer::Done || !shows(flags.operation()) {
         return Called {
             outcome,
             shown: &[],
@@ -110,8 +96,7 @@ fn call<'a>(session: &Session, flags: Flags, more: bool, buffer: &'a mut [u8]) -
 // Every line but the first. `None` is out of shape.
 #[tactic(auto, unfolding(crate::specs::Frames::framed))]
 pub fn frame<'a>(session: &Session, line: &'a mut Line) -> Option<Called<'a>>
-    ensures said { told_by session.now result ≡ framed session.now (read_of (part_of line.old)) }
-    ensures shown { IfSome result (λ called. length called.shown.now ≤ limit) }
+    ensures { told_by session.now result ≡ framed session.now (read_of (part_of line.old)) }
 {
     let [flags, more, payload @ ..] = line.said()? else {
         return None;

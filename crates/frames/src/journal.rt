@@ -5,7 +5,8 @@ ghost use Rattle.frames.specs.Steps.{answer_limit, start, stepped, finished, par
 ghost use Rattle.frames.specs.Inside.{stage_behind, said_at, told_by, Writes};
 
 use crate::answer::{self, ANSWER_LIMIT, BAD_LINE};
-use crate::frame::{self, Called};
+use crate::called::Called;
+use crate::frame;
 use crate::line::Line;
 use strobe::{Answer, Session};
 
@@ -32,8 +33,7 @@ impl Stage {
 
     // What comes of a line. `None` is out of shape, and all is behind the end.
     fn called<'a>(self, session: &Session, line: &'a mut Line) -> Option<Called<'a>>
-        ensures said { told_by session.now result ≡ said_at self session.now (read_of (part_of line.old)) }
-        ensures shown { IfSome result (λ called. length called.shown.now ≤ limit) }
+        ensures { told_by session.now result ≡ said_at self session.now (read_of (part_of line.old)) }
     {
         match self {
             Stage::First => frame::open(line),

@@ -2,6 +2,7 @@
 #![tactic(auto)]
 
 mod answer;
+mod called;
 mod frame;
 mod journal;
 mod line;

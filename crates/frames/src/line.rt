@@ -6,7 +6,7 @@ ghost use Rattle.frames.specs.Inside.{Same, is_whole, read_all, past, said};
 // The bytes of the longest line: a flag byte, a `more` byte and a payload.
 pub const LINE_LIMIT: usize = 4098;
 
-// Any values of these say something, so that no function asks for a fact about them: a count past the buffer's end is the end.
+// Any values of these say something, so that no public function asks for a fact about them: a count past the buffer's end is the end.
 #[derive(Clone, Copy)]
 pub struct Line {
     pub buffer: [u8; LINE_LIMIT],
@@ -73,7 +73,7 @@ impl Line {
         if !self.good {
             return;
         }
-        match (hex_digits::value(character), self.upper) {
+        match (hex_digits::number(character), self.upper) {
             (None, _) => self.good = false,
             (Some(upper), None) => self.upper = Some(upper),
             (Some(lower), Some(upper)) if self.count < LINE_LIMIT => {

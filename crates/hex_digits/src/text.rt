@@ -8,7 +8,7 @@ use std::fmt;
 #[derive(Drop)]
 pub struct Hex<'a>(pub &'a [u8]);
 
-// A byte, and that its two digits can be said.
+// A byte. That it is below 256 a proof sees of an argument, and not of an element of a slice behind a field.
 #[derive(Drop)]
 struct Pair {
     byte: u8,

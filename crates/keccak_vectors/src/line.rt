@@ -1,5 +1,5 @@
 // A state as a line of text: two lower-case hexadecimal digits for each byte, and a newline.
-ghost use Rattle.std.specs.Prelude.{◌≡◌, List, ℕ, IfSome, IsSome};
+ghost use Rattle.std.specs.Prelude.{List, ℕ, IfSome, IsSome};
 ghost use Rattle.keccak_vectors.specs.Line.{Bytes, Spells};
 
 // The state of a line, found just where the line is the line of one.
