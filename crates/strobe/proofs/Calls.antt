@@ -14,7 +14,7 @@ use Rattle.strobe.specs.Duplex.{Sponge, Duplex, Rule, met, same}
 use Rattle.strobe.specs.Flags.{K, META_AD, has, operation_of, operation, is_recv_mac, zeroing, overwriting, rule_of}
 use Rattle.strobe.specs.Loops.{duplex_of, Fed, Ran, strobe_of, among, takers, changers, macs, ratchets, KeepsRate, Worked, Settles, Operates}
 use Rattle.strobe.specs.Session.{rate_of, sponge, sponge_of, seen, held, given, fresh_at, Is, Comes, Calls}
-use Rattle.strobe.specs.Strobe.{Strobe, disagrees, opened, known_last, well_formed, refusal, verdict, worked, settled, call, unnamed, fresh}
+use Rattle.strobe.specs.Strobe.{Strobe, opened, known_last, well_formed, refusal, verdict, worked, settled, call, unnamed, fresh}
 use Rattle.strobe.specs.Answer.{number}
 use Rattle.strobe.specs.declared.answer.Answer.{Answer}
 use Rattle.strobe.specs.declared.answer.Answer.TheVariants.{Done, KeyFlag, NoOperation, NotTheLast, CutMac, TooLong, NoLevel, NotASession, MacUnequal, BadSaved, ShortBuffer}
@@ -26,8 +26,6 @@ use Rattle.strobe.specs.declared.session.Outcome.{Outcome}
 use Rattle.strobe.specs.declared.flags.Flags.{Flags}
 use Rattle.strobe.specs.declared.level.Level.{Level}
 use Rattle.strobe.specs.declared.level.Level.TheVariants.{B128, B256}
-use Rattle.strobe.specs.declared.direction.Direction.{Direction}
-use Rattle.strobe.specs.declared.direction.Direction.TheVariants.{Neither, Sender, Receiver}
 use Rattle.strobe.specs.declared.session.Session.{Session}
 use Rattle.strobe.proofs.Data.{Ordered, out-kept, after_zeros}
 use Rattle.strobe.proofs.Twenty.{takers_keep, takers_no_mac, changers_no_mac, macs_are, ratchets_are}
@@ -35,19 +33,6 @@ use Rattle.strobe.proofs.Twenty.{takers_keep, takers_no_mac, changers_no_mac, ma
 pub rate_small : (l : Level) → rate_of l ≤ 166
 rate_small B128 = lit≤ tt
 rate_small B256 = lit≤ tt
-
-cond_bit : (i : Bool) → cond i 1 0 ≤ 1
-cond_bit true = omega arith
-cond_bit false = omega arith
-
-cond_no_bit : (i : Bool) → cond i 0 1 ≤ 1
-cond_no_bit true = omega arith
-cond_no_bit false = omega arith
-
-pub disagrees-bit : (dir : Direction) (i : Bool) → disagrees dir i ≤ 1
-disagrees-bit Neither i = cond_bit i
-disagrees-bit Sender i = cond_bit i
-disagrees-bit Receiver i = cond_no_bit i
 
 -- ---- a session that passed the tests may be worked on
 

@@ -1,4 +1,4 @@
--- What the private byte loops ask and give, for Keccak-f[1600] at a rate. Nothing here is to be believed: no promise of a public function cites it.
+-- What the private byte loops ask and give, for Keccak-f[1600] at a rate, and what a call does around its work. Nothing here is to be believed: no promise of a public function cites it.
 use Rattle.std.specs.Borrow.{MutBor}
 use Rattle.std.specs.Fn.{Mut, CalledAtMut}
 use Rattle.std.specs.Prelude.{Bool, false, ◌||◌, List, [], ◌∷◌, ◌≡◌, ℕ, zero, suc, ◌+◌, eqb, get_or, set}

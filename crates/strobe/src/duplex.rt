@@ -1,5 +1,5 @@
 // Data through the duplex: the state with its positions, and a rule over bytes, block by block.
-ghost use Rattle.std.specs.Prelude.{◌≡◌, ◌+◌, ◌≤◌, ◌<◌, length, replicate};
+ghost use Rattle.std.specs.Prelude.{◌+◌, ◌≤◌, ◌<◌, replicate};
 
 use crate::parts;
 use crate::rule::{ByteRule, Overwriting};

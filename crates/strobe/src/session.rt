@@ -43,9 +43,8 @@ fn seed(rate: usize) -> [u8; 200]
 fn unnamed(level: Level) -> Session
     ensures { result ≡ held level (unnamed (sponge_of level)) }
 {
-    let state = keccak::permute(seed(level.rate()));
     Session {
-        state,
+        state: keccak::permute(seed(level.rate())),
         level,
         pos: 0,
         begin: 0,
