@@ -14,7 +14,7 @@ mod turn;
 pub use turn::{Turn, take_turn};
 
 // What a call on a lent session gives back: an outcome without the session.
-#[derive(Clone, Copy)]
+#[derive(Clone, Copy, PartialEq, Eq)]
 pub struct Report {
     pub answer: Answer,
 }

@@ -5,7 +5,7 @@ use crate::{ad, call, prf, ratchet, save};
 use strobe::{Answer, Flags, Session};
 
 // The session at the end, and the answer of each call.
-#[derive(Clone, Copy)]
+#[derive(Clone, Copy, PartialEq, Eq)]
 pub struct Turn {
     pub session: Session,
     pub noted: Answer,

@@ -2,7 +2,7 @@
 use crate::steps::step;
 use crate::{data, line};
 use std::io;
-use strobe::Session;
+use strobe::{Flags, Session};
 
 #[derive(Clone, Copy)]
 struct Ends {
@@ -37,8 +37,8 @@ fn changed_mac(rt: &impl Print, ends: Ends, mac: &mut [u8; 64]) -> io::Result<()
     let here = line::write(rt, ends.here.send_mac(mac, false), mac)?;
     mac[3] ^= 1;
     let there = line::write(rt, ends.there.recv_mac(mac), mac)?;
-    step(rt, 0x0c, 0, |buf| here.send_mac(buf, false))?;
-    step(rt, 0x0d, 0, |buf| there.recv_mac(buf))?;
+    step(rt, Flags::SEND_MAC, 0, |buf| here.send_mac(buf, false))?;
+    step(rt, Flags::RECV_MAC, 0, |buf| there.recv_mac(buf))?;
     Ok(())
 }
 

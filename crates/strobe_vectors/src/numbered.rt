@@ -11,7 +11,8 @@ pub fn step(
     more: bool,
     count: u8,
 ) -> io::Result<Session> {
-    steps::step(rt, byte, count, |buf| session.call(Flags(byte), more, buf))
+    let flags = Flags(byte);
+    steps::step(rt, flags, count, |buf| session.call(flags, more, buf))
 }
 
 // Every flag byte without K, the twenty and the twelve that are no operation's.

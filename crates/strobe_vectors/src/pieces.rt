@@ -13,7 +13,7 @@ fn step(
 ) -> io::Result<Session> {
     steps::step(
         rt,
-        flags.0,
+        flags,
         200,
         |buf| session.call_in_pieces(flags, more, size, buf),
     )

@@ -71,6 +71,6 @@ pub fn write(rt: &impl Print) -> io::Result<()> {
     no_level(rt, 0)?;
     let blank = no_level(rt, 127)?;
     step(rt, blank, 0x02, false, 3)?;
-    steps::step(rt, 0x0d, 0, |mac| blank.recv_mac(mac))?;
+    steps::step(rt, Flags::RECV_MAC, 0, |mac| blank.recv_mac(mac))?;
     Ok(())
 }

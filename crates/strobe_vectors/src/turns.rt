@@ -5,15 +5,14 @@ use crate::{data, line};
 use hex_digits::Hex;
 use lent::Turn;
 use std::io;
-use strobe::{Answer, Flags, Level, Outcome, Session};
+use strobe::{Flags, Level, Outcome, Session};
 
 const EVENT: [u8; 9] = *b"north won";
 
-// What a turn leaves: its session and answers, and its three buffers.
+// What a turn leaves: its result, and its three buffers.
 #[derive(Clone, Copy, PartialEq, Eq)]
 struct Left {
-    session: Session,
-    answers: [Answer; 5],
+    turn: Turn,
     buf: [u8; 70],
     dice: [u8; 20],
     form: [u8; 210],
@@ -51,17 +50,9 @@ impl Way {
         let mut buf = data::counting(0);
         let mut dice = [0u8; 20];
         let mut form = [0u8; 210];
-        let Turn {
-            session,
-            noted,
-            called,
-            drawn,
-            ratcheted,
-            saved,
-        } = turn(&mut buf[..self.size], &mut dice, &mut form[..self.room]);
+        let turn = turn(&mut buf[..self.size], &mut dice, &mut form[..self.room]);
         Left {
-            session,
-            answers: [noted, called, drawn, ratcheted, saved],
+            turn,
             buf,
             dice,
             form,
@@ -96,13 +87,20 @@ impl Way {
 
 impl Left {
     fn write(&self, rt: &impl Print) -> io::Result<()> {
-        let [_, called, ..] = self.answers;
+        let Turn {
+            session,
+            noted,
+            called,
+            drawn,
+            ratcheted,
+            saved,
+        } = self.turn;
         let outcome = Outcome {
-            session: self.session,
+            session,
             answer: called,
         };
         line::write(rt, outcome, &self.buf)?;
-        let numbers = self.answers.map(|answer| answer.number());
+        let numbers = [noted, called, drawn, ratcheted, saved].map(|answer| answer.number());
         println!(rt; "{} {} {}", Hex(&numbers), Hex(&self.dice), Hex(&self.form))
     }
 }
@@ -115,7 +113,7 @@ fn take(rt: &impl Print, session: Session, way: Way) -> io::Result<Session> {
         return Ok(session);
     }
     left.write(rt)?;
-    Ok(left.session)
+    Ok(left.turn.session)
 }
 
 // Every flag byte without K, turn after turn.
