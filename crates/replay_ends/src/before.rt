@@ -80,44 +80,40 @@ impl Attempt {
     }
 }
 
-// The session behind a night in which it may have been saved and loaded, the edition, and what it was answered when it then went on.
-fn overnight(
-    session: Session,
-    bytes: [u8; SIZE],
-    reload: Option<Edition>,
-) -> (Session, Option<Edition>, Option<Note>) {
-    let Some(edition) = reload else {
-        return (session, None, None);
-    };
-    let loaded = edition.reload(session);
-    match edition {
-        // More of the operation that was last before the save is tried. No last operation is set, so the answer is NotTheLast; after a received MAC it is
-        // CutMac, as for every session.
-        Edition::One => {
-            let (session, note) = tried(loaded.session, bytes, last_flags(session), true);
-            (session, loaded.edition, Some(note))
-        }
-        // The session could go on, so nothing is tried.
-        Edition::Two => (loaded.session, loaded.edition, None),
-    }
-}
-
 impl Before {
+    // A night in which the session may be saved and loaded.
+    fn overnight(
+        session: Session,
+        bytes: [u8; SIZE],
+        reload: Option<Edition>,
+    ) -> (Session, Before) {
+        let mut before = Before::default();
+        let Some(edition) = reload else {
+            return (session, before);
+        };
+        let loaded = edition.reload(session);
+        before.edition = loaded.edition;
+        match edition {
+            // More of the operation that was last before the save is tried. No last operation is set, so the answer is NotTheLast; after a received MAC it is
+            // CutMac, as for every session.
+            Edition::One => {
+                let (session, note) = tried(loaded.session, bytes, last_flags(session), true);
+                before.went_on = Some(note);
+                (session, before)
+            }
+            // The session could go on, so nothing is tried.
+            Edition::Two => (loaded.session, before),
+        }
+    }
+
     // The operation goes on with the session.
     pub fn play(session: Session, bytes: [u8; SIZE], part: Part) -> (Session, Before) {
-        let (session, edition, went_on) = overnight(session, bytes, part.reload);
-        let (session, refused) = match part.attempt {
-            None => (session, None),
-            Some(attempt) => {
-                let (session, note) = attempt.tried(session, bytes, part.flags);
-                (session, Some(note))
-            }
+        let (session, mut before) = Before::overnight(session, bytes, part.reload);
+        let Some(attempt) = part.attempt else {
+            return (session, before);
         };
-        let before = Before {
-            edition,
-            went_on,
-            refused,
-        };
+        let (session, note) = attempt.tried(session, bytes, part.flags);
+        before.refused = Some(note);
         (session, before)
     }
 }

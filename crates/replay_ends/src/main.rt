@@ -22,7 +22,7 @@ fn replay(rt: &impl Print, level: Level) -> io::Result<()> {
     let mut plan = Session::new(b"a plan for two ends, 2713", level).session;
     let mut ends = Ends::new(level);
     rt.write_all(&plan.version_str())?;
-    rt.write_all(b"\n")?;
+    println!(rt;)?;
     for number in 0..200 {
         let step = Step::drawn(plan, number == 0);
         ends = ends.play(&step);

@@ -60,7 +60,7 @@ fn counted<'a>(
     if flags.operation() == Operation::Ratchet {
         return Some(Frame {
             asked: Asked::LongRatchet(flags, more, count),
-            lent: &mut buffer[..0],
+            lent: &mut [],
         });
     }
     None
@@ -80,34 +80,28 @@ fn call<'a>(text: &[u8], buffer: &'a mut [u8; LENT_LIMIT]) -> Option<Frame<'a>> 
         Operation::Ratchet | Operation::Prf | Operation::SendMac => {
             counted(flags, more, payload, buffer)
         }
-        _ => Some(Frame {
-            asked: Asked::Call(flags, more),
-            lent: digits::read(payload, buffer)?,
-        }),
+        _ => Frame::lending(Asked::Call(flags, more), payload, buffer),
     }
 }
 
 impl<'a> Frame<'a> {
+    // What is lent stands in the line.
+    fn lending(asked: Asked, text: &[u8], buffer: &'a mut [u8; LENT_LIMIT]) -> Option<Frame<'a>> {
+        let lent = digits::read(text, buffer)?;
+        Some(Frame { asked, lent })
+    }
+
     // A case's first line: a level byte and a protocol name.
     pub fn first(text: &[u8], buffer: &'a mut [u8; LENT_LIMIT]) -> Option<Frame<'a>> {
         let (level, name) = digits::split_byte(text)?;
-        Some(Frame {
-            asked: Asked::Create(level),
-            lent: digits::read(name, buffer)?,
-        })
+        Frame::lending(Asked::Create(level), name, buffer)
     }
 
     // Every other line.
     pub fn later(text: &[u8], buffer: &'a mut [u8; LENT_LIMIT]) -> Option<Frame<'a>> {
         match text {
-            [b's', bytes @ ..] => Some(Frame {
-                asked: Asked::Save,
-                lent: digits::read(bytes, buffer)?,
-            }),
-            [b'l', bytes @ ..] => Some(Frame {
-                asked: Asked::Load,
-                lent: digits::read(bytes, buffer)?,
-            }),
+            [b's', bytes @ ..] => Frame::lending(Asked::Save, bytes, buffer),
+            [b'l', bytes @ ..] => Frame::lending(Asked::Load, bytes, buffer),
             _ => call(text, buffer),
         }
     }
