@@ -36,24 +36,24 @@ pub fn of(byte: u8) -> [u8; 2]
     [upper_digit(byte), lower_digit(byte)]
 }
 
-// The number that a digit stands for, or 16 where the byte is no digit.
+// The number that a digit stands for, if the byte is one.
+#[tactic(auto, unfolding(crate::specs::Digits::value_of))]
+pub fn number(byte: u8) -> Option<u8>
+    ensures { result ≡ digit_value byte }
+{
+    match byte {
+        b'0'..=b'9' => Some(byte - b'0'),
+        b'a'..=b'f' => Some(byte - b'a' + 10),
+        _ => None,
+    }
+}
+
+// The same, or 16 where the byte is no digit.
 #[tactic(auto, unfolding(crate::specs::Digits::value_of))]
 pub fn value(byte: u8) -> u8
     ensures { result ≡ value_of byte }
 {
-    match byte {
-        b'0'..=b'9' => byte - b'0',
-        b'a'..=b'f' => byte - b'a' + 10,
-        _ => 16,
-    }
-}
-
-// The number that a digit stands for, if the byte is one.
-pub fn number(byte: u8) -> Option<u8>
-    ensures { result ≡ digit_value byte }
-{
-    let value = value(byte);
-    (value < 16).then_some(value)
+    number(byte).unwrap_or(16)
 }
 
 // The byte that two digits stand for.
