@@ -31,7 +31,7 @@ impl Stage {
         }
     }
 
-    // What comes of a line. `None` is out of shape, and all is behind the end.
+    // What comes of a line. `None` is out of shape; behind the end, where nothing is called, it makes the function total.
     fn called<'a>(self, session: &Session, line: &'a mut Line) -> Option<Called<'a>>
         ensures { told_by session.now result ≡ said_at self session.now (read_of (part_of line.old)) }
     {
@@ -84,8 +84,7 @@ impl Journal {
         if self.stage == Stage::Ended {
             return 0;
         }
-        let called = self.stage.called(&self.session, &mut self.line);
-        let Some(called) = called else {
+        let Some(called) = self.stage.called(&self.session, &mut self.line) else {
             self.stage = self.stage.behind(false);
             return answer::write(BAD_LINE, &[], out);
         };

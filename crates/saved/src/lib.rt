@@ -97,6 +97,7 @@ fn session_in(form: &[u8], last: u8) -> Option<Session>
     ensures { answered result ≡ loaded_with form.now last }
 {
     let session = Session {
+        // 200 bytes of a slice are an array: this never gives None
         state: form[STATE..STATE_END].try_into().ok()?,
         level: level_of(form[1])?,
         pos: form[2] as usize,

@@ -14,7 +14,7 @@ fn called(session: Session, frame: Frame<'_>, out: &mut Out<'_, impl Print>) -> 
     let by_number = asked.call::<Number>(session, lent);
     let by_name = asked.call::<Name>(session, other);
     record::write(out, Some(by_number.answer), &by_number.session, lent);
-    if by_number != by_name || &*lent != &*other {
+    if by_number != by_name || *lent != *other {
         record::write(out, Some(by_name.answer), &by_name.session, other);
     }
     by_number.session
