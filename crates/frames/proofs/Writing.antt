@@ -5,10 +5,11 @@ use Prim.Native.Nat.{ℕ, suc, ◌+◌, ◌-◌, ◌*◌, ◌/◌, ◌%◌, ◌�
 use native.Mathlib.Omega.{arith}
 use native.Mathlib.Numerals.{add-one}
 use lib.ListN.{length, take, drop, set, get_or, length-append, length-take, length-drop, length-set, drop_of_length-le}
-use lib.Seq.{take_at, drop_at, drop-drop, set_split, length-take-le, take-suc}
+use lib.Seq.{take_at, drop_at, drop-drop, set_split, length-take-le}
 use borrow.Rule.Slice.PartMut.{put_mid, Post-is}
 use Rattle.std.proofs.lemmas.List.{take_rest}
 use Rattle.hex_digits.specs.Digits.{digit_of}
+use Rattle.hex_digits.proofs.Written.{encode_more}
 use Rattle.frames.specs.Hexadecimal.{encode}
 use Rattle.frames.specs.Lines.{newline}
 use Rattle.frames.specs.Journal.{answer_line}
@@ -56,11 +57,6 @@ unfolding encode
 length-encode [] = refl
 length-encode (b ∷ bytes) = let n = length-encode bytes in omega arith
 
-encode-append : (a b : List ℕ) → encode (a ++ b) ≡ encode a ++ encode b
-unfolding encode
-encode-append [] b = refl
-encode-append (x ∷ a) b = ap (λ (l : List ℕ). digit_of (x / 16) ∷ digit_of (x % 16) ∷ l) (encode-append a b)
-
 pub no_bytes_write : (out : List ℕ) → Writes (encode []) out 0 out
 unfolding encode
 no_bytes_write out = nothing_writes out
@@ -68,7 +64,6 @@ no_bytes_write out = nothing_writes out
 pub two_more : (bytes out : List ℕ) (i : ℕ) (out' : List ℕ) → Writes (encode (take i bytes)) out (2 * i) out' → i < length bytes → 2 * i + 1 < length out'
     → (digits : List ℕ) → digits ≡ digit_of (get_or bytes i 0 / 16) ∷ digit_of (get_or bytes i 0 % 16) ∷ []
     → Writes (encode (take (i + 1) bytes)) out (2 * (i + 1)) (set (set out' (2 * i) (get_or digits 0 0)) (2 * i + 1) (get_or digits 1 0))
-unfolding encode
 two_more bytes out i out' w h k digits d =
     let byte = get_or bytes i 0 in
     let upper = digit_of (byte / 16) in
@@ -76,7 +71,7 @@ two_more bytes out i out' w h k digits d =
     let text = encode (take i bytes) in
     let two : 2 * (i + 1) ≡ 2 * i + 1 + 1 = omega arith in
     let more : encode (take (i + 1) bytes) ≡ (text ++ upper ∷ []) ++ lower ∷ [] =
-    rw (add-one, take-suc bytes i 0 h, encode-append (take i bytes) (byte ∷ [])) (sym (append_assoc text (upper ∷ []) (lower ∷ []))) in
+    encode_more bytes i h ∙ sym (append_assoc text (upper ∷ []) (lower ∷ [])) in
     rw (d, more, two)
     (one_more (text ++ upper ∷ []) out (2 * i + 1) (set out' (2 * i) upper) (one_more text out (2 * i) out' w upper (omega arith)) lower (rw length-set k))
 

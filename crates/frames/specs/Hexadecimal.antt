@@ -1,21 +1,13 @@
--- Bytes as lower-case hexadecimal digits, two a byte, the upper half first; and back (docs/JOURNAL.md, section 1).
-use Rattle.std.specs.Prelude.{Bool, cond, ◌&&◌, List, [], ◌∷◌, ℕ, ◌+◌, ◌*◌, ◌/◌, ◌%◌, ltb}
-use Rattle.hex_digits.specs.Digits.{digit_of, value_of}
-
-unfoldable pub encode : List ℕ → List ℕ
-encode [] = []
-encode (b ∷ bs) = digit_of (b / 16) ∷ digit_of (b % 16) ∷ encode bs
+-- Bytes from lower-case hexadecimal digits, two a byte, the upper half first (docs/JOURNAL.md, section 1). The digits of bytes, `encode`, are those of
+-- the crate hex_digits.
+use Rattle.std.specs.Prelude.{cond, ◌&&◌, List, [], ◌∷◌, ℕ}
+unfoldable pub use Rattle.hex_digits.specs.Digits.{encode}
+pub use Rattle.hex_digits.specs.Digits.{is_digit, byte_of}
 
 -- what a text says: bytes, or nothing where it is out of shape
 pub data Read : Type 0 where
   misshapen : Read
   bytes : List ℕ → Read
-
-abbrev pub is_digit : ℕ → Bool
-is_digit c = ltb (value_of c) 16
-
-abbrev pub byte_of : ℕ → ℕ → ℕ
-byte_of c d = value_of c * 16 + value_of d
 
 -- a byte in front of others
 abbrev pub ahead : ℕ → Read → Read

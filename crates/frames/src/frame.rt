@@ -1,5 +1,5 @@
 // What a line's bytes ask for, and the call that it makes.
-ghost use Rattle.std.specs.Prelude.{◌≡◌, ◌≤◌, length, replicate, IfSome};
+ghost use Rattle.std.specs.Prelude.{◌≡◌, ◌≤◌, length, replicate};
 ghost use Rattle.strobe.specs.Flags.{operation};
 ghost use Rattle.strobe.specs.declared.flags.Operation.TheVariants.{Ratchet};
 ghost use Rattle.strobe.specs.declared.session.Session.{Session};

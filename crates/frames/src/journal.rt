@@ -1,6 +1,5 @@
 // The journal by steps: any piece of the input goes in, and what it comes to is written into a lent buffer.
-ghost use Rattle.std.specs.Prelude.{◌≡◌, ◌≤◌, length, IfSome};
-ghost use Rattle.frames.specs.Frames.{limit};
+ghost use Rattle.std.specs.Prelude.{◌≡◌, ◌≤◌, length};
 ghost use Rattle.frames.specs.Steps.{answer_limit, start, stepped, finished, part_of, place_of, read_of, reply_at, is_ended, Steps};
 ghost use Rattle.frames.specs.Inside.{stage_behind, said_at, told_by, Writes};
 

@@ -3,7 +3,7 @@ use mathlib.Core.Path.{◌≡◌}
 use Prim.Native.Nat.{ℕ, ◌/◌, ◌%◌}
 use mathlib.Core.List.{List, [], ◌∷◌}
 use Rattle.std.specs.Prelude.{Option}
-use Rattle.hex_digits.specs.Digits.{digit_of, value_of, digit_value, pair_value, digits_of}
+use Rattle.hex_digits.specs.Digits.{digit_of, value_of, digit_value, pair_value, encode}
 use Rattle.laws.proofs.Promise.{one_answer}
 
 pub upper_digit_one_answer : (byte : ℕ) {x y : ℕ} → x ≡ digit_of (byte / 16) → y ≡ digit_of (byte / 16) → x ≡ y
@@ -24,5 +24,5 @@ number_one_answer byte p q = one_answer p q
 pub byte_one_answer : (upper lower : ℕ) {x y : Option ℕ} → x ≡ pair_value upper lower → y ≡ pair_value upper lower → x ≡ y
 byte_one_answer upper lower p q = one_answer p q
 
-pub text_one_answer : (bytes : List ℕ) {x y : List ℕ} → x ≡ digits_of bytes → y ≡ digits_of bytes → x ≡ y
+pub text_one_answer : (bytes : List ℕ) {x y : List ℕ} → x ≡ encode bytes → y ≡ encode bytes → x ≡ y
 text_one_answer bytes p q = one_answer p q

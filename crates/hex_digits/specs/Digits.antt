@@ -1,5 +1,5 @@
--- Lower-case hexadecimal digits in ASCII: the digit of a number, and the number of a digit. Assumes nothing.
-use Rattle.std.specs.Prelude.{List, [], ◌∷◌, Option, None, Some, cond, ◌&&◌, ℕ, ◌+◌, ◌-◌, ◌*◌, ◌/◌, ◌%◌, leb, ltb}
+-- Lower-case hexadecimal digits in ASCII: the digit of a number, and the number of a digit; bytes in digits. Assumes nothing.
+use Rattle.std.specs.Prelude.{List, [], ◌∷◌, Option, None, Some, Bool, cond, ◌&&◌, ℕ, ◌+◌, ◌-◌, ◌*◌, ◌/◌, ◌%◌, leb, ltb}
 
 -- `0` is 48, and `a`, the digit of ten, stands 39 places after 48 + 10
 abbrev pub digit_of : ℕ → ℕ
@@ -12,15 +12,22 @@ value_of byte =
     (cond (leb 97 byte && leb byte 102) (byte - 87)
     16)
 
--- the number, of a digit alone
+abbrev pub is_digit : ℕ → Bool
+is_digit c = ltb (value_of c) 16
+
+-- of two digits, the upper half first
+abbrev pub byte_of : ℕ → ℕ → ℕ
+byte_of c d = value_of c * 16 + value_of d
+
+-- two digits for each byte
+unfoldable pub encode : List ℕ → List ℕ
+encode [] = []
+encode (b ∷ bs) = digit_of (b / 16) ∷ digit_of (b % 16) ∷ encode bs
+
+-- ---- what the functions answer
+
 abbrev pub digit_value : ℕ → Option ℕ
-digit_value byte = cond (ltb (value_of byte) 16) (Some (value_of byte)) None
+digit_value c = cond (is_digit c) (Some (value_of c)) None
 
--- the number of two digits, the upper half first
 abbrev pub pair_value : ℕ → ℕ → Option ℕ
-pair_value upper lower = cond (ltb (value_of upper) 16 && ltb (value_of lower) 16) (Some (value_of upper * 16 + value_of lower)) None
-
--- the digits of bytes, two for each
-abbrev pub digits_of : List ℕ → List ℕ
-digits_of [] = []
-digits_of (b ∷ bs) = digit_of (b / 16) ∷ digit_of (b % 16) ∷ digits_of bs
+pair_value c d = cond (is_digit c && is_digit d) (Some (byte_of c d)) None

@@ -1,6 +1,6 @@
 // Bytes as text.
 ghost use Rattle.std.specs.Prelude.{Some, [], ◌∷◌, ◌/◌, ◌%◌, ◌<◌, ◌≡◌};
-ghost use Rattle.hex_digits.specs.Digits.{digit_of, digits_of};
+ghost use Rattle.hex_digits.specs.Digits.{digit_of, encode};
 
 use std::fmt;
 
@@ -30,8 +30,9 @@ impl fmt::Display for Pair {
 }
 
 impl fmt::Display for Hex<'_> {
-    ghost output = { λ h. Some (digits_of h.0.now) };
+    ghost output = { λ h. Some (encode h.0.now) };
 
+    #[tactic(auto, unfolding(crate::specs::Digits::encode))]
     fn fmt<W: fmt::Write>(&self, f: &mut fmt::Formatter<W>) -> fmt::Result {
         for &byte in self.0 {
             write!(f, "{}", two_digits(byte))?;
