@@ -1,6 +1,6 @@
 // What a line asks for. A line that is out of shape asks for nothing.
 ghost use Rattle.std.specs.Prelude.{◌≤◌, length};
-ghost use Rattle.trace.specs.declared.frame.TheConstants.{LENT_LIMIT};
+ghost use Rattle.trace.specs.Bounds.{lent_limit};
 
 use crate::digits;
 use strobe::{Flags, Operation};
@@ -22,7 +22,7 @@ pub enum Asked {
 pub struct Frame<'a> {
     pub asked: Asked,
     pub lent: &'a mut [u8],
-    ghost fits: { length lent.now ≤ LENT_LIMIT },
+    ghost fits: { length lent.now ≤ lent_limit },
 }
 
 // The longest buffer that is lent.

@@ -1,6 +1,6 @@
 // A line as it comes, up to the newline.
 ghost use Rattle.std.specs.Prelude.{◌≤◌};
-ghost use Rattle.trace.specs.declared.line.TheConstants.{LIMIT};
+ghost use Rattle.trace.specs.Bounds.{line_limit};
 
 // One character more than the longest line in shape has. A longer line is cut here, and is out of shape all the same.
 const LIMIT: usize = 8197;
@@ -9,7 +9,7 @@ const LIMIT: usize = 8197;
 pub struct Line {
     characters: [u8; LIMIT],
     count: usize,
-    ghost fits: { count ≤ LIMIT },
+    ghost fits: { count ≤ line_limit },
 }
 
 impl Line {

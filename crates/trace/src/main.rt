@@ -5,13 +5,13 @@ mod calls;
 mod digits;
 mod frame;
 mod line;
-mod out;
+mod output;
 mod record;
 mod reply;
 
 use frame::LENT_LIMIT;
 use line::Line;
-use out::Out;
+use output::Out;
 use std::io::Read;
 use strobe::Session;
 

@@ -1,60 +1,48 @@
 // A call's line of output: its answer, the session's parts, the lent bytes and the state.
-use crate::out::Out;
-use std::fmt;
+ghost use Rattle.std.specs.Prelude.{◌≡◌, ◌≤◌, ◌+◌, ◌*◌, length};
+ghost use Rattle.trace.specs.Bounds.{out_size, record_size};
+
+use crate::output::Out;
 use strobe::{Answer, Direction, Last, Session};
 
 // The answer to a line that is out of shape.
 const BAD_LINE: u8 = 7;
 
-// The parts between the version text and the lent bytes, with a space before and behind each.
-#[derive(Drop)]
-struct Parts<'a>(&'a Session);
-
 // A position that two digits can't say is no session's, and has to be seen.
-#[derive(Drop)]
-struct Position(usize);
-
-impl fmt::Display for Position {
-    fn fmt<W: fmt::Write>(&self, f: &mut fmt::Formatter<W>) -> fmt::Result {
-        match u8::try_from(self.0) {
-            Ok(pos) => write!(f, "{pos:02x}"),
-            Err(_) => write!(f, "??"),
-        }
+fn position(pos: usize) -> [u8; 2] {
+    match u8::try_from(pos) {
+        Ok(pos) => hex_digits::of(pos),
+        Err(_) => *b"??",
     }
 }
 
-impl fmt::Display for Parts<'_> {
-    fn fmt<W: fmt::Write>(&self, f: &mut fmt::Formatter<W>) -> fmt::Result {
-        let session = *self.0;
-        let direction = match session.direction {
-            Direction::Neither => 0,
-            Direction::Sender => 1,
-            Direction::Receiver => 2,
-        };
-        write!(
-            f,
-            " {} {} {direction} ",
-            Position(session.pos),
-            Position(session.begin)
-        )?;
-        match session.last {
-            Last::Nothing => write!(f, "-- "),
-            Last::Op(flags) => write!(f, "{:02x} ", flags.0),
-        }
-    }
+// The parts between the version text and the lent bytes, with a space before and behind each.
+fn parts(session: &Session) -> [u8; 12] {
+    let direction = match session.direction {
+        Direction::Neither => b'0',
+        Direction::Sender => b'1',
+        Direction::Receiver => b'2',
+    };
+    let last = match session.last {
+        Last::Nothing => *b"--",
+        Last::Op(flags) => hex_digits::of(flags.0),
+    };
+    let [p0, p1] = position(session.pos);
+    let [b0, b1] = position(session.begin);
+    let [l0, l1] = last;
+    [
+        b' ', p0, p1, b' ', b0, b1, b' ', direction, b' ', l0, l1, b' ',
+    ]
 }
 
 // The whole line, newline and all. There is no answer where a line is out of shape.
-pub fn write(
-    out: &mut Out<'_, impl Print>,
-    answer: Option<Answer>,
-    session: &Session,
-    lent: &[u8],
-) {
+pub fn write(out: &mut Out<'_, impl Print>, answer: Option<Answer>, session: &Session, lent: &[u8])
+    ensures { out.old.count + 2 * length lent.now + record_size ≤ out_size → out.new.count ≡ out.old.count + 2 * length lent.now + record_size }
+{
     let number = answer.map_or(BAD_LINE, |answer| answer.number());
-    out.print(format_args!("{number:02} "));
+    out.push(&[b'0' + number / 10, b'0' + number % 10, b' ']);
     out.push(&session.version_str());
-    out.print(Parts(session));
+    out.push(&parts(session));
     out.push_hex(lent);
     out.push(b" ");
     out.push_hex(&session.state);

@@ -1,12 +1,17 @@
 // The reply to a line: its call is made twice, by number and by name, and each way has its line of output.
+ghost use Rattle.std.specs.Prelude.{◌≤◌, ◌+◌};
+ghost use Rattle.trace.specs.Bounds.{out_size, reply_limit};
+
 use crate::calls::{Name, Number};
 use crate::frame::{Frame, LENT_LIMIT};
-use crate::out::Out;
+use crate::output::Out;
 use crate::record;
 use strobe::Session;
 
 // The case goes on with the call by number. The other one's line is written only where it differs.
-fn called(session: Session, frame: Frame<'_>, out: &mut Out<'_, impl Print>) -> Session {
+fn called(session: Session, frame: Frame<'_>, out: &mut Out<'_, impl Print>) -> Session
+    ensures { out.old.count + reply_limit ≤ out_size → (out.old.count ≤ out.new.count) × (out.new.count ≤ out.old.count + reply_limit) }
+{
     let Frame { asked, lent } = frame;
     let mut copy = [0u8; LENT_LIMIT];
     let other = &mut copy[..lent.len()];
@@ -27,6 +32,7 @@ pub fn reply(
     buffer: &mut [u8; LENT_LIMIT],
     out: &mut Out<'_, impl Print>,
 ) -> Option<Session> {
+    out.make_room();
     if text.is_empty() {
         out.push(b"\n");
         return None;
