@@ -92,17 +92,20 @@ impl Line {
         ensures { Same (part_of self.new) result.now (part_of self.old) input.now }
     {
         let mut rest = input;
+        // in a local, since a count behind `self` would be stored and read again at each pair
+        let mut count = self.count;
         while let [upper, lower, others @ ..] = rest {
-            if self.count >= LINE_LIMIT {
+            if count >= LINE_LIMIT {
                 break;
             }
             let Some(byte) = hex_digits::byte(*upper, *lower) else {
                 break;
             };
-            self.buffer[self.count] = byte;
-            self.count += 1;
+            self.buffer[count] = byte;
+            count += 1;
             rest = others;
         }
+        self.count = count;
         rest
     }
 

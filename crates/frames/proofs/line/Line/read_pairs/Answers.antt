@@ -6,5 +6,5 @@ use Rattle.frames.proofs.line.Line.read_pairs.Goals as goal
 pub loop-rest-preserved : goal.loop-rest-preserved
 loop-rest-preserved c =
     let l = c.loop-rest in
-    let same = one_pair l.self l.rest.now c.in-Some.byte (search rules) l.invariant.0 c.if-self-ge-LINE_LIMIT.false c.in-len2-up.len_at_least (sym c.in-Some.is ∙ c.byte.ensures) in
+    let same = one_pair (record l.self { count = l.count }) l.rest.now c.in-Some.byte (search rules) l.invariant.0 c.if-count-ge-LINE_LIMIT.false c.in-len2-up.len_at_least (sym c.in-Some.is ∙ c.byte.ensures) in
     (l.invariant.0, rw take_rest (same_through same l.invariant.1))

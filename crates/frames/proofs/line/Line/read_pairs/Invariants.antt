@@ -2,10 +2,13 @@
 use Rattle.std.proofs.Common.{◌≡◌, true, length}
 use Rattle.frames.specs.Steps.{part_of}
 use Rattle.frames.specs.Inside.{Same, is_whole}
+use Rattle.frames.specs.declared.line.Line.{Line}
 use Rattle.frames.proofs.line.Line.read_pairs.Given as goal
 
 abbrev pub invariant-loop-rest : goal.invariant-loop-rest
-invariant-loop-rest l = (is_whole (part_of l.self) ≡ true) × Same (part_of l.self) l.rest (part_of l.initial.self) l.initial.rest
+invariant-loop-rest l =
+    let line : Line = record l.self { count = l.count } in
+    (is_whole (part_of line) ≡ true) × Same (part_of line) l.rest (part_of l.initial.self) l.initial.rest
 
 abbrev pub decreases-loop-rest : goal.decreases-loop-rest
 decreases-loop-rest l = length l.rest
