@@ -1,13 +1,13 @@
 -- Laws of frames: what a line asks for, and what an outcome tells. Assumes nothing.
 use mathlib.Core.Path.{◌≡◌, refl, sym, ap, ◌∙◌}
-use Prim.Native.Nat.{ℕ, ◌+◌, ◌-◌, ◌*◌, ◌≤◌}
+use Prim.Native.Nat.{ℕ, ◌+◌, ◌-◌, ◌*◌, ◌≤◌, ◌<◌}
 use native.Mathlib.Omega.{arith}
 use mathlib.Core.List.{List, [], ◌∷◌, ◌++◌}
 use mathlib.Core.Bool.{Bool, true, false, not, cond, ◌&&◌, and-false}
 use lib.Dec.{eqb, leb}
 use lib.ListN.{length, get_or, replicate, take, drop, length-take, length-drop, take-append-drop}
 use lib.Seq.{take_at, drop-append-le}
-use borrow.Author.Tests.{le-leb}
+use borrow.Author.Tests.{le-leb, lt-leb}
 use Rattle.std.proofs.lemmas.List.{take_rest}
 use Rattle.std.specs.Prelude.{Option, Some, None, is_some, option_copied, ◌⊎◌}
 use Rattle.std.specs.Borrow.{Bor}
@@ -95,12 +95,18 @@ lent_from l bs n h some e = go (l.good && not (is_some l.upper)) h
         ∙ take_at (drop 2 bs) rest n (omega (arith, length-drop 2 bs)))
     go false h = absurd (not_bytes h)
 
-line_calls : (s : Session) (bs : List ℕ) → length bs ≤ line_limit → 2 ≤ length bs → get_or bs 1 0 ≤ 1 → (o : Operation) → operation (flags (get_or bs 0 0)) ≡ o
+pub line_calls : (s : Session) (bs : List ℕ) → length bs ≤ line_limit → 2 ≤ length bs → get_or bs 1 0 ≤ 1 → (o : Operation) → operation (flags (get_or bs 0 0)) ≡ o
     → framed s (bytes bs) ≡ calling s (flags (get_or bs 0 0)) (eqb (get_or bs 1 0) 1) (buffer_of o (drop 2 bs))
 unfolding framed
 line_calls s [] most some small o e = absurd (omega arith)
 line_calls s (f ∷ []) most some small o e = absurd (omega arith)
 line_calls s (f ∷ more ∷ payload) most some small o e = rw (le-leb more 1 small, le-leb (length payload) limit (omega arith), e)
+
+pub large_more_refused : (s : Session) (bs : List ℕ) → 2 ≤ length bs → 1 < get_or bs 1 0 → framed s (bytes bs) ≡ refused s
+unfolding framed
+large_more_refused s [] some large = absurd (omega arith)
+large_more_refused s (f ∷ []) some large = absurd (omega arith)
+large_more_refused s (f ∷ more ∷ payload) some large = rw (lt-leb more 1 large)
 
 -- ---- a line that says bytes
 
@@ -129,7 +135,7 @@ module _ (l : Line) (o : Option (Bor (List ℕ))) (b : Bor (List ℕ)) (told : s
 
 -- ---- the two ratchets
 
-ratchet_by_its_bit : (f : Flags) → operation f ≡ Ratchet → f ≡ cond (has f M) META_RATCHET RATCHET
+pub ratchet_by_its_bit : (f : Flags) → operation f ≡ Ratchet → f ≡ cond (has f M) META_RATCHET RATCHET
 ratchet_by_its_bit f e = at_each (λ (f : Flags). f ≡ cond (has f M) META_RATCHET RATCHET) ratchets (refl, (refl, tt)) f (handled_as f Ratchet e refl)
 
 -- either of the two

@@ -38,7 +38,7 @@ module _ (p : Part) (c : ℕ) where
   unfolding read
   full_spoils g d e l = rw (g, lt-ltb (value_of c) 16 d, e, le-ltb (length p.bytes) line_limit l)
 
-  byte_grows : p.good ≡ true → value_of c < 16 → p.half ≡ true → length p.bytes < line_limit
+  pub byte_grows : p.good ≡ true → value_of c < 16 → p.half ≡ true → length p.bytes < line_limit
       → (byte : ℕ) → byte ≡ p.upper % 16 * 16 + value_of c → read p c ≡ even (p.bytes ++ byte ∷ [])
   unfolding read
   byte_grows g d e l byte b = rw (b, g, lt-ltb (value_of c) 16 d, e, lt-ltb (length p.bytes) line_limit l)

@@ -14,8 +14,10 @@ use Rattle.strobe.specs.Duplex.{Sponge, Duplex, Rule, met, same}
 use Rattle.strobe.specs.Flags.{K, META_AD, has, operation_of, operation, is_recv_mac, zeroing, overwriting, rule_of}
 use Rattle.strobe.specs.Loops.{duplex_of, Fed, Ran, strobe_of, among, takers, changers, macs, ratchets, KeepsRate, Worked, Settles, Operates}
 use Rattle.strobe.specs.Session.{rate_of, sponge, sponge_of, seen, held, given, fresh_at, Is, Comes, Calls}
-use Rattle.strobe.specs.Strobe.{Strobe, opened, known_last, well_formed, refusal, verdict, worked, settled, call, unnamed, fresh}
+use Rattle.strobe.specs.Strobe.{Strobe, disagrees, opened, known_last, well_formed, refusal, verdict, worked, settled, call, unnamed, fresh}
 use Rattle.strobe.specs.Answer.{number}
+use Rattle.strobe.specs.declared.direction.Direction.{Direction}
+use Rattle.strobe.specs.declared.direction.Direction.TheVariants.{Neither, Sender, Receiver}
 use Rattle.strobe.specs.declared.answer.Answer.{Answer}
 use Rattle.strobe.specs.declared.answer.Answer.TheVariants.{Done, KeyFlag, NoOperation, NotTheLast, CutMac, TooLong, NoLevel, NotASession, MacUnequal, BadSaved, ShortBuffer}
 use Rattle.strobe.specs.declared.opening.Open.{Open}
@@ -33,6 +35,19 @@ use Rattle.strobe.proofs.Twenty.{takers_keep, takers_no_mac, changers_no_mac, ma
 pub rate_small : (l : Level) → rate_of l ≤ 166
 rate_small B128 = lit≤ tt
 rate_small B256 = lit≤ tt
+
+cond_bit : (i : Bool) → cond i 1 0 ≤ 1
+cond_bit true = omega arith
+cond_bit false = omega arith
+
+cond_no_bit : (i : Bool) → cond i 0 1 ≤ 1
+cond_no_bit true = omega arith
+cond_no_bit false = omega arith
+
+pub disagrees-bit : (dir : Direction) (i : Bool) → disagrees dir i ≤ 1
+disagrees-bit Neither i = cond_bit i
+disagrees-bit Sender i = cond_bit i
+disagrees-bit Receiver i = cond_no_bit i
 
 -- ---- a session that passed the tests may be worked on
 
@@ -98,7 +113,7 @@ pub verdict-done : (sp : Sponge) (o : Operation) (d : Duplex) (bs : List ℕ) �
 unfolding verdict
 verdict-done sp o d bs e = rw e
 
-verdict_mac : (sp : Sponge) (o : Operation) (d : Duplex) (bs : List ℕ) (n : ℕ) → o ≡ RecvMac
+pub verdict_mac : (sp : Sponge) (o : Operation) (d : Duplex) (bs : List ℕ) (n : ℕ) → o ≡ RecvMac
     → n ≡ cond (same (met sp overwriting d bs) bs) 0 9 → n ≡ verdict sp o d bs
 unfolding verdict
 verdict_mac sp o d bs n e h = rw e (h ∙ go (same (met sp overwriting d bs) bs))
@@ -108,7 +123,7 @@ verdict_mac sp o d bs n e h = rw e (h ∙ go (same (met sp overwriting d bs) bs)
     go false = refl
 
 -- the work of an operation that keeps the lent bytes
-feeding : (r : Rule) (st : State) (bs : List ℕ) (st' : State) → ((x b : ℕ) → r.buffer x b ≡ b) → Fed r st bs st' → Ran r st bs st' bs
+pub feeding : (r : Rule) (st : State) (bs : List ℕ) (st' : State) → ((x b : ℕ) → r.buffer x b ≡ b) → Fed r st bs st' → Ran r st bs st' bs
 feeding r st bs st' keep h = record { fed = h; lent = sym (out-kept (sponge st.rate) r (duplex_of st) bs keep) }
 
 -- a work that keeps the rate keeps it in the call that it had

@@ -73,7 +73,7 @@ zeroed st pos n k kn h ys e =
 -- ---- a part is the data byte by byte, with one test for a full block at its end
 
 module _ (sp : Sponge) (r : Rule) where
-  run : (st : List ℕ) (pos begin : ℕ) (bs : List ℕ) → 0 < length bs → pos + length bs ≤ sp.rate
+  pub run : (st : List ℕ) (pos begin : ℕ) (bs : List ℕ) → 0 < length bs → pos + length bs ≤ sp.rate
       → after sp r (at st pos begin) bs ≡ close_if_full sp (at (part r st pos bs) (pos + length bs) begin)
   unfolding after part step
   run st pos begin [] z h = elim z [ ]
@@ -83,7 +83,7 @@ module _ (sp : Sponge) (r : Rule) where
       (rw (run (set st pos (r.state (get_or st pos 0) b)) (pos + 1) begin (c ∷ bs) (omega arith) (omega arith))
       (let e : pos + 1 + suc (length bs) ≡ pos + suc (suc (length bs)) = omega arith in rw e))
 
-  run_out : (st : List ℕ) (pos begin : ℕ) (bs : List ℕ) → pos + length bs ≤ sp.rate
+  pub run_out : (st : List ℕ) (pos begin : ℕ) (bs : List ℕ) → pos + length bs ≤ sp.rate
       → out sp r (at st pos begin) bs ≡ part_out r st pos bs
   unfolding out part_out step
   run_out st pos begin [] h = refl
