@@ -37,7 +37,8 @@ fn parts(session: &Session) -> [u8; 12] {
 
 // The whole line, newline and all. There is no answer where a line is out of shape.
 pub fn write(out: &mut Out<'_, impl Print>, answer: Option<Answer>, session: &Session, lent: &[u8])
-    ensures { out.old.count + 2 * length lent.now + record_size ≤ out_size → out.new.count ≡ out.old.count + 2 * length lent.now + record_size }
+    requires { out.old.count + 2 * length lent.now + record_size ≤ out_size }
+    ensures { out.new.count ≡ out.old.count + 2 * length lent.now + record_size }
 {
     let number = answer.map_or(BAD_LINE, |answer| answer.number());
     out.push(&[b'0' + number / 10, b'0' + number % 10, b' ']);

@@ -10,7 +10,8 @@ use strobe::Session;
 
 // The case goes on with the call by number. The other one's line is written only where it differs.
 fn called(session: Session, frame: Frame<'_>, out: &mut Out<'_, impl Print>) -> Session
-    ensures { out.old.count + reply_limit ≤ out_size → (out.old.count ≤ out.new.count) × (out.new.count ≤ out.old.count + reply_limit) }
+    requires { out.old.count + reply_limit ≤ out_size }
+    ensures { (out.old.count ≤ out.new.count) × (out.new.count ≤ out.old.count + reply_limit) }
 {
     let Frame { asked, lent } = frame;
     let mut copy = [0u8; LENT_LIMIT];
