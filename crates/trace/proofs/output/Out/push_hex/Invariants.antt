@@ -1,3 +1,4 @@
+-- What was gathered and the digits that are left come to the same at each turn, where there is room for all. Assumes nothing.
 use Rattle.std.proofs.Common.{◌≡◌, ◌≤◌, ◌+◌, ◌*◌, length}
 use Rattle.trace.specs.Bounds.{out_size}
 use Rattle.trace.proofs.output.Out.push_hex.Given as goal
